@@ -1,0 +1,6 @@
+//! The base of every other crate: ids, texts, small enums, and lists of rows that rise by key.
+#![tactic(auto)]
+
+mod memory;
+
+pub use memory::NoMemory;
