@@ -1,0 +1,36 @@
+ghost use Rattle.std.specs.Prelude.{◌≡◌, ◌<◌, ◌≤◌, ℕ, List, Option, length};
+ghost use Rattle.ev_ports.specs.Ports.{Rose, Takes};
+
+/// What a read answers.
+#[derive(Clone, Copy, Debug, PartialEq, Eq)]
+pub enum Took {
+    /// So many bytes stand at the front of the slice, at least one.
+    Bytes(usize),
+
+    /// Nothing is left.
+    End,
+
+    /// A fault: nothing was taken.
+    Failed,
+}
+
+/// What bytes are read from: a file, a terminal, a list in memory.
+pub trait Source {
+    // the bytes that are left, where the source tells them
+    ghost left: { Self → Option (List ℕ) };
+
+    // how many faults there were
+    ghost faults: { Self → ℕ };
+
+    /// Reads into the front of `into`. What the slice holds behind the bytes taken, or after
+    /// another answer, is left open. A fault may come where nothing is left, too.
+    fn read(&mut self, into: &mut [u8]) -> Took
+        requires { 0 < length into.old }
+        ensures taken { Takes result (left self.old) into.new (left self.new) }
+        ensures count { faults self.old ≤ faults self.new }
+        ensures cause { result ≡ Took.Failed → Rose (faults self.old) (faults self.new) };
+
+    /// How many faults there were. The count stands still at the end of its type.
+    fn faults(&self) -> u64
+        ensures { result ≡ faults self.now };
+}
