@@ -16,6 +16,17 @@ one_more count = min (count + 1) (2 ^ 64 - 1)
 abbrev pub Rose : ℕ → ℕ → Type 0
 Rose before now = one_more before ≤ now
 
+-- a count of faults after a read: one more where it failed
+abbrev pub faults_after_read : ℕ → Took → ℕ
+faults_after_read faults (Bytes n) = faults
+faults_after_read faults End = faults
+faults_after_read faults Failed = one_more faults
+
+-- a count of faults after a write: one more where it failed
+abbrev pub faults_after_write : ℕ → Put → ℕ
+faults_after_write faults (Wrote n) = faults
+faults_after_write faults PutFailed = one_more faults
+
 -- the bytes left begin with these and lose them; what isn't told stays untold
 abbrev pub Loses : Option (List ℕ) → List ℕ → Option (List ℕ) → Type 0
 Loses None bytes new = new ≡ None
