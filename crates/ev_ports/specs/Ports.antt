@@ -1,4 +1,4 @@
--- What reads and writes do to the bytes that a source has left and a sink holds, and to their counts of faults.
+-- What reads and writes do to the bytes that a source has left and a sink holds, and to their faults.
 use Rattle.std.specs.Prelude.{◌≡◌, ℕ, ◌+◌, ◌-◌, ◌^◌, ◌<◌, ◌≤◌, min, List, [], ◌++◌, length, take, Option, None, Some, refl}
 use Rattle.std.proofs.Common.{append_assoc, append-nil, sym}
 use Rattle.ev_ports.specs.declared.reading.Took.{Took}
@@ -27,19 +27,19 @@ abbrev pub faults_after_write : ℕ → Put → ℕ
 faults_after_write faults (Wrote n) = faults
 faults_after_write faults PutFailed = one_more faults
 
--- the bytes left begin with these and lose them; what isn't told stays untold
+-- the bytes left begin with these and lose them; what isn't known stays unknown
 abbrev pub Loses : Option (List ℕ) → List ℕ → Option (List ℕ) → Type 0
 Loses None bytes new = new ≡ None
 Loses (Some left) bytes None = Some left ≡ None
 Loses (Some left) bytes (Some rest) = left ≡ bytes ++ rest
 
--- the bytes held get these behind them; what isn't told stays untold
+-- the bytes held get these behind them; what isn't known stays unknown
 abbrev pub Gains : Option (List ℕ) → List ℕ → Option (List ℕ) → Type 0
 Gains None bytes new = new ≡ None
 Gains (Some held) bytes None = Some held ≡ None
 Gains (Some held) bytes (Some longer) = longer ≡ held ++ bytes
 
--- nothing is left, as far as it is told
+-- nothing is left, as far as it is known
 abbrev pub IsSpent : Option (List ℕ) → Type 0
 IsSpent None = Unit {0}
 IsSpent (Some left) = left ≡ []
@@ -66,7 +66,8 @@ Loses-nothing None = refl
 Loses-nothing (Some left) = refl
 
 -- two reads, one after the other
-pub Loses-chain : (a b c : Option (List ℕ)) (x y : List ℕ) → Loses a x b → Loses b y c → Loses a (x ++ y) c
+pub Loses-chain :
+    (a b c : Option (List ℕ)) (x y : List ℕ) → Loses a x b → Loses b y c → Loses a (x ++ y) c
 Loses-chain None None c x y first second = second
 Loses-chain None (Some b) c x y first second = cc
 Loses-chain (Some a) None c x y first second = cc
@@ -79,7 +80,8 @@ Gains-nothing None = refl
 Gains-nothing (Some held) = sym (append-nil held)
 
 -- two writes, one after the other
-pub Gains-chain : (a b c : Option (List ℕ)) (x y : List ℕ) → Gains a x b → Gains b y c → Gains a (x ++ y) c
+pub Gains-chain :
+    (a b c : Option (List ℕ)) (x y : List ℕ) → Gains a x b → Gains b y c → Gains a (x ++ y) c
 Gains-chain None None c x y first second = second
 Gains-chain None (Some b) c x y first second = cc
 Gains-chain (Some a) None c x y first second = cc

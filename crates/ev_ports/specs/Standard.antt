@@ -1,5 +1,5 @@
 -- Sources and sinks over std's readers and writers, as contracts see them.
-use Rattle.std.specs.Prelude.{◌≡◌, ℕ, List, [], take, Option, refl}
+use Rattle.std.specs.Prelude.{ℕ, List, take, Option, refl}
 use Rattle.std.specs.Coded.{Coded, code_by, coded×, coded_ℕ}
 use Rattle.std.specs.Io.KnownBytes.{Keeps, Appends, Consumes, IsAtEnd}
 use Rattle.ev_ports.specs.declared.reading.Took.{Took}

@@ -1,4 +1,7 @@
-//! What is read and what is written, as two traits: each counts its faults, and may tell its bytes.
+//! Where input comes from and where output goes, as two traits.
+//!
+//! Both count their faults, and a call answers `Failed` only where the count rose in it. Contracts
+//! know the bytes of sources and sinks in memory, and none of those over std's readers and writers.
 #![tactic(auto)]
 
 mod counts;

@@ -1,4 +1,4 @@
-//! Sources and sinks in memory. They tell their bytes, and fail where they were asked to.
+//! Sources and sinks in memory, whose calls fail where they were asked to.
 ghost use Rattle.std.specs.Prelude.{◌≡◌, ◌<◌, ◌≤◌, ◌+◌, ◌↔◌, ◌⊎◌, ◌++◌, min, [], Contains, length, take, drop, IsTrue, IfOk, Some};
 ghost use Rattle.ev_ports.specs.Ports.{Takes, Puts, Rose, one_more, faults_after_read, faults_after_write};
 ghost use Rattle.ev_ports.specs.Memory.{TakesMost};
@@ -73,7 +73,12 @@ impl Model for MemSource {
 impl MemSource {
     /// A source of these bytes. `fails` has the numbers, from 1, of the reads that fail.
     pub fn new(bytes: Vec<u8>, fails: Vec<u64>) -> Self
-        ensures { result ≡ record { left = bytes.items; fails = fails.items; calls = 0; faults = 0 } }
+        ensures { result ≡ record {
+          left = bytes.items;
+          fails = fails.items;
+          calls = 0;
+          faults = 0;
+        } }
     {
         MemSource {
             bytes,
@@ -99,7 +104,7 @@ impl Source for MemSource {
     fn read(&mut self, into: &mut [u8]) -> Took
         requires { 0 < length into.old }
 
-        // What was asked for, and how many reads there were.
+        // The calls and their faults.
         ensures fails { self.new.fails ≡ self.old.fails }
         ensures calls { self.new.calls ≡ one_more self.old.calls }
         ensures failed { (result ≡ Took.Failed) ↔ Contains self.old.fails self.new.calls }
@@ -188,7 +193,7 @@ impl Sink for MemSink {
     fn write(&mut self, bytes: &[u8]) -> Put
         requires { 0 < length bytes.now }
 
-        // What was asked for, and how many writes there were.
+        // The calls and their faults.
         ensures fails { self.new.fails ≡ self.old.fails }
         ensures calls { self.new.calls ≡ one_more self.old.calls }
         ensures room { self.old.room ≤ self.new.room }

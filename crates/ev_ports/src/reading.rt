@@ -16,14 +16,14 @@ pub enum Took {
 
 /// What bytes are read from: a file, a terminal, a list in memory.
 pub trait Source {
-    // the bytes that are left, where the source tells them
+    // The bytes that are left, where they are known. No call changes whether they are.
     ghost left: { Self → Option (List ℕ) };
 
-    // how many faults there were
+    // How many faults there were.
     ghost faults: { Self → ℕ };
 
     /// Reads into the front of `into`. What the slice holds behind the bytes taken, or after
-    /// another answer, is left open. A fault may come where nothing is left, too.
+    /// another answer, is left open. A fault may come at the end, too.
     fn read(&mut self, into: &mut [u8]) -> Took
         requires { 0 < length into.old }
         ensures taken { Takes result (left self.old) into.new (left self.new) }

@@ -1,4 +1,4 @@
-//! Sources and sinks over std's readers and writers. They tell no bytes.
+//! Sources and sinks over std's readers and writers.
 ghost use Rattle.std.specs.Prelude.{◌≡◌, ◌<◌, ◌≤◌, length, None};
 ghost use Rattle.ev_ports.specs.Ports.{Takes, Puts, Rose, faults_after_read, faults_after_write};
 ghost use Rattle.ev_ports.specs.Standard.{PassesRead, PassesWrite};

@@ -13,10 +13,10 @@ pub enum Put {
 
 /// What bytes are written to: a file, a terminal, a list in memory.
 pub trait Sink {
-    // the bytes that were written, where the sink tells them
+    // The bytes that were written, where they are known. No call changes whether they are.
     ghost held: { Self → Option (List ℕ) };
 
-    // how many faults there were
+    // How many faults there were.
     ghost faults: { Self → ℕ };
 
     /// Writes the first of `bytes`, as many as it takes.
