@@ -1,0 +1,2 @@
+pub mod QueueIds
+pub mod Roles
