@@ -1,2 +1,3 @@
 pub mod QueueIds
 pub mod Roles
+pub mod Texts
