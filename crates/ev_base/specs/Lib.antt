@@ -1,3 +1,5 @@
+pub mod KeyOrder
 pub mod QueueIds
 pub mod Roles
+pub mod Rows
 pub mod Texts
