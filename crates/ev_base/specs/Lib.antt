@@ -1,4 +1,5 @@
 pub mod KeyOrder
+pub mod Orders
 pub mod QueueIds
 pub mod Roles
 pub mod Rows

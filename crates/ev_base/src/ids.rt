@@ -4,6 +4,7 @@ ghost use Rattle.std.specs.Prelude.{◌≡◌, length};
 ghost use Rattle.ev_base.specs.QueueIds.{FitsItsBits, queue_bytes, queue_of_bytes, queue_of_text, queue_text};
 ghost use Rattle.ev_base.specs.declared.ids.QueueId.{QueueId};
 
+use crate::exact_clone::ExactClone;
 use std::fmt;
 use uuid::Uuid;
 
@@ -25,6 +26,22 @@ pub struct QueueId {
     pub user: UserId,
     pub number: u32,
     pub salt: u64,
+}
+
+impl ExactClone for UserId {
+    ghost exact = { λ _ _ same. same };
+}
+
+impl ExactClone for StreamId {
+    ghost exact = { λ _ _ same. same };
+}
+
+impl ExactClone for MessageId {
+    ghost exact = { λ _ _ same. same };
+}
+
+impl ExactClone for QueueId {
+    ghost exact = { λ _ _ same. same };
 }
 
 impl fmt::Display for UserId {

@@ -4,6 +4,7 @@ ghost use Rattle.std.specs.Prelude.{◌≡◌};
 ghost use Rattle.ev_base.specs.Roles.{role_number, role_of};
 ghost use Rattle.ev_base.specs.declared.kinds.Role.{Role};
 
+use crate::exact_clone::ExactClone;
 use crate::ids::QueueId;
 
 /// What a user may do.
@@ -74,4 +75,20 @@ pub struct Expired {
     pub queue: QueueId,
     pub moment: u64,
     pub last_of_user: bool,
+}
+
+impl ExactClone for Role {
+    ghost exact = { λ _ _ same. same };
+}
+
+impl ExactClone for Privacy {
+    ghost exact = { λ _ _ same. same };
+}
+
+impl ExactClone for Flag {
+    ghost exact = { λ _ _ same. same };
+}
+
+impl ExactClone for Expired {
+    ghost exact = { λ _ _ same. same };
 }

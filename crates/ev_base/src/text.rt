@@ -8,8 +8,9 @@ ghost use Rattle.std.specs.Cmp.Lexicographic.{nat_list_cmp_total, nat_list_eq_eq
 ghost use Rattle.std.specs.Cmp.Rules.{hashing};
 ghost use Rattle.std.specs.Hash as fed;
 ghost use Rattle.std.proofs.Common.{refl, rules};
-ghost use Rattle.ev_base.specs.Texts.{bad_place, fault_of, least, may_have, most};
+ghost use Rattle.ev_base.specs.Texts.{IsText, bad_place, fault_of, least, may_have, most};
 
+use crate::exact_clone::ExactClone;
 use std::alloc::{AllocError, Global};
 use std::cmp::Ordering;
 use std::fmt;
@@ -172,7 +173,8 @@ impl Text {
     }
 
     pub fn as_str(&self) -> &str
-        ensures { result.now ≡ self.now }
+        ensures value { result.now ≡ self.now }
+        ensures text { IsText self.now }
     {
         self.inner.as_str()
     }
@@ -186,6 +188,10 @@ impl Clone for Text {
             inner: self.inner.clone()?,
         })
     }
+}
+
+impl ExactClone for Text {
+    ghost exact = { λ _ _ same. same };
 }
 
 impl PartialEq for Text {
