@@ -84,9 +84,9 @@ pub triple_order : {A B C : Type 0} {first : A → A → Ordering} {second : B �
     → KeyOrder first → KeyOrder second → KeyOrder third → KeyOrder (triple_cmp first second third)
 triple_order {A} {B} {C} {first} {second} {third} a b c = record {
   total = then_total (on_total (λ (key : A × B × C). key.0) a.total)
-    (then_total (on_total (λ (key : A × B × C). key.1) b.total) (on_total (λ (key : A × B × C). key.2) c.total));
+      (then_total (on_total (λ (key : A × B × C). key.1) b.total) (on_total (λ (key : A × B × C). key.2) c.total));
   exact = λ x y same. ap (λ (key : A × (B × C)). (key.0, key.1.0, key.1.1))
-    (exact_pairs first (pair_cmp second third) a.exact (exact_pairs second third b.exact c.exact) (x.0, (x.1, x.2)) (y.0, (y.1, y.2)) same);
+      (exact_pairs first (pair_cmp second third) a.exact (exact_pairs second third b.exact c.exact) (x.0, (x.1, x.2)) (y.0, (y.1, y.2)) same);
 }
 
 pub user_stream_order : KeyOrder user_stream_cmp

@@ -1,12 +1,13 @@
 -- The kinds of text: how many characters each may have, and which. Lengths and places are counted in characters.
-use Rattle.std.specs.Prelude.{◌≡◌, ℕ, ◌+◌, nat_lt, ◌==◌, Bool, true, not, ◌&&◌, ◌||◌, if◌then◌else◌, List, [], ◌∷◌, length, Option, Some, None, option_map, codes}
+use Rattle.std.specs.Prelude.{◌≡◌, ℕ, ◌+◌, nat_lt, ◌==◌, Bool, not, ◌&&◌, ◌||◌, if◌then◌else◌, List, [], ◌∷◌, ◌++◌, length, Option, Some, None, option_map, codes}
 use Rattle.std.specs.List.{list_any}
 use Rattle.std.specs.Char.{is_ascii_alphanumeric, is_ascii_control, is_ascii_digit, is_ascii_hexdigit, is_ascii_lowercase, is_ascii_uppercase}
+use Rattle.std.specs.Fmt.{decimal}
 use Rattle.std.specs.Str.{chars}
 use Rattle.ev_base.specs.declared.text.TextKind.{TextKind}
 use Rattle.ev_base.specs.declared.text.TextKind.TheVariants.{RealmName, RealmDescription, StreamName, StreamDescription, Topic, FullName, Email, ApiKey, Content, Emoji, Color}
 use Rattle.ev_base.specs.declared.text.TextFault.{TextFault}
-use Rattle.ev_base.specs.declared.text.TextFault.TheVariants.{TooShort, TooLong, BadChar}
+use Rattle.ev_base.specs.declared.text.TextFault.TheVariants.{TooShort, TooLong, BadChar, NoMemory}
 
 -- the least number of characters of a kind
 abbrev pub least : TextKind → ℕ
@@ -74,3 +75,10 @@ fault_of kind text = fault_of_chars kind (chars text)
 -- the bytes are a text of some kind
 abbrev pub IsText : List ℕ → Type 0
 IsText text = (kind : TextKind) × (fault_of kind text ≡ None)
+
+-- how a fault is printed
+abbrev pub fault_text : TextFault → List ℕ
+fault_text (TooShort count) = codes "too short at " ++ decimal count ++ codes " characters"
+fault_text (TooLong count) = codes "too long at " ++ decimal count ++ codes " characters"
+fault_text (BadChar place) = codes "bad character at place " ++ decimal place
+fault_text NoMemory = codes "out of memory"

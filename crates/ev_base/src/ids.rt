@@ -96,11 +96,7 @@ impl QueueId {
     {
         match Uuid::try_parse(text) {
             Ok(uuid) => QueueId::from_uuid(uuid),
-            Err(_) => QueueId {
-                user: UserId(0),
-                number: 0,
-                salt: 0,
-            },
+            Err(_) => QueueId::from_uuid(Uuid::nil()),
         }
     }
 
@@ -132,3 +128,71 @@ pub fn queue_texts_read_back()
 pub fn queue_texts_have_36_bytes()
     ensures { (queue : QueueId) → length (queue_text queue) ≡ 36 }
 {}
+
+#[cfg(test)]
+mod tests {
+    use super::*;
+    use std::mem::size_of;
+    use std::test::Fail;
+
+    const _: () = prove!(size_of::<UserId>() == 4);
+
+    const _: () = prove!(size_of::<QueueId>() == 16);
+
+    #[test]
+    fn a_queue_text_has_the_user_the_number_and_the_salt(rt: HostRuntime) -> Result<(), Fail> {
+        for (user, number, salt, text) in [
+            (1, 0, 0, "00000001-0000-0000-0000-000000000000"),
+            (1, 9, 0, "00000001-0000-0009-0000-000000000000"),
+            (1, 0, 42, "00000001-0000-0000-0000-00000000002a"),
+            (
+                0x89ab_cdef,
+                0x0123_4567,
+                0x89ab_cdef_0123_4567,
+                "89abcdef-0123-4567-89ab-cdef01234567",
+            ),
+        ] {
+            let queue = QueueId {
+                user: UserId(user),
+                number,
+                salt,
+            };
+            assert_eq!(rt; format!(in rt.alloc(); "{queue}")?.as_str(), text);
+            assert_eq!(rt; QueueId::from_text(text), queue);
+        }
+        queue_texts_read_back();
+        queue_texts_have_36_bytes();
+        Ok(())
+    }
+
+    #[test]
+    fn other_forms_are_read_and_other_texts_name_no_queue(rt: HostRuntime) {
+        let queue = QueueId {
+            user: UserId(2),
+            number: 0,
+            salt: 0,
+        };
+        for text in [
+            "00000002000000000000000000000000",
+            "{00000002-0000-0000-0000-000000000000}",
+            "urn:uuid:00000002-0000-0000-0000-000000000000",
+        ] {
+            assert_eq!(rt; QueueId::from_text(text), queue, "{text}");
+        }
+        let none = QueueId {
+            user: UserId(0),
+            number: 0,
+            salt: 0,
+        };
+        for text in ["", "a", "2.0", "00000002-0000-0000-0000-00000000000g"] {
+            assert_eq!(rt; QueueId::from_text(text), none, "{text}");
+        }
+    }
+
+    #[test]
+    fn ids_are_printed_as_their_numbers(rt: HostRuntime) -> Result<(), Fail> {
+        let ids = format!(in rt.alloc(); "{} {} {}", UserId(7), StreamId(0), MessageId(u32::MAX))?;
+        assert_eq!(rt; ids.as_str(), "7 0 4294967295");
+        Ok(())
+    }
+}

@@ -5,7 +5,6 @@ ghost use Rattle.ev_base.specs.Roles.{role_number, role_of};
 ghost use Rattle.ev_base.specs.declared.kinds.Role.{Role};
 
 use crate::exact_clone::ExactClone;
-use crate::ids::QueueId;
 
 /// What a user may do.
 #[derive(Clone, Copy, Debug, PartialEq, Eq, Hash)]
@@ -68,15 +67,6 @@ pub enum Flag {
     Collapsed,
 }
 
-/// A queue that was collected at a moment, in seconds, and whether its user has no other queue on
-/// the shard.
-#[derive(Clone, Copy, Debug, PartialEq, Eq, Hash)]
-pub struct Expired {
-    pub queue: QueueId,
-    pub moment: u64,
-    pub last_of_user: bool,
-}
-
 impl ExactClone for Role {
     ghost exact = { λ _ _ same. same };
 }
@@ -89,6 +79,23 @@ impl ExactClone for Flag {
     ghost exact = { λ _ _ same. same };
 }
 
-impl ExactClone for Expired {
-    ghost exact = { λ _ _ same. same };
+#[cfg(test)]
+mod tests {
+    use super::*;
+
+    #[test]
+    fn a_role_has_its_number(rt: HostRuntime) {
+        for (role, number) in [
+            (Role::Owner, 100),
+            (Role::Administrator, 200),
+            (Role::Moderator, 300),
+            (Role::Member, 400),
+            (Role::Guest, 600),
+        ] {
+            assert_eq!(rt; role.number(), number);
+            assert_eq!(rt; Role::from_number(number), Some(role));
+        }
+        assert_eq!(rt; Role::from_number(500), None);
+        role_numbers_read_back();
+    }
 }

@@ -130,3 +130,47 @@ impl<T: fmt::Debug> fmt::Debug for Listed<T> {
         fmt::Debug::fmt(&self.items, f)
     }
 }
+
+#[cfg(test)]
+mod tests {
+    use super::*;
+    use crate::ids::UserId;
+    use std::hash::DefaultHasher;
+    use std::test::Fail;
+
+    #[test]
+    fn a_list_gives_its_vec_back(rt: HostRuntime) -> Result<(), Fail> {
+        let users = Listed::from_vec(vec![in rt.alloc(); UserId(3), UserId(1)]?);
+        assert_eq!(rt; users.len(), 2);
+        assert!(rt; !users.is_empty());
+        assert_eq!(rt; users.as_slice(), [UserId(3), UserId(1)].as_slice());
+        assert_eq!(rt;
+            format!(in rt.alloc(); "{users:?}")?.as_str(),
+            "[UserId(3), UserId(1)]"
+        );
+        assert_eq!(rt;
+            users.into_vec().as_slice(),
+            [UserId(3), UserId(1)].as_slice()
+        );
+        assert!(rt; Listed::<UserId>::from_vec(Vec::new(rt.alloc())).is_empty());
+        Ok(())
+    }
+
+    fn hash_of<T: Hash>(value: &T) -> u64 {
+        let mut state = DefaultHasher::new();
+        value.hash(&mut state);
+        state.finish()
+    }
+
+    #[test]
+    fn lists_are_compared_by_their_elements(rt: HostRuntime) -> Result<(), Fail> {
+        let short = Listed::from_vec(vec![in rt.alloc(); 1u32, 2]?);
+        let long = Listed::from_vec(vec![in rt.alloc(); 1u32, 2, 0]?);
+        assert_eq!(rt; short, short.clone()?);
+        assert_ne!(rt; short, long);
+        assert!(rt; short < long);
+        assert_eq!(rt; short.cmp(&long), Ordering::Less);
+        assert_eq!(rt; hash_of(&short), hash_of(&short.clone()?));
+        Ok(())
+    }
+}

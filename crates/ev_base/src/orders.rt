@@ -17,8 +17,7 @@ pub fn keys_are_in_order()
     ensures user_messages { KeyOrder user_message_cmp }
     ensures stream_users { KeyOrder stream_user_cmp }
     ensures reactions { KeyOrder reaction_cmp }
-{
-}
+{}
 
 /// Code compares keys in these orders.
 pub fn code_compares_keys_in_their_order()
@@ -30,5 +29,15 @@ pub fn code_compares_keys_in_their_order()
     ensures user_messages { ⟦<(UserId, MessageId) as Ord>⟧.cmp ≡ user_message_cmp }
     ensures stream_users { ⟦<(StreamId, UserId) as Ord>⟧.cmp ≡ stream_user_cmp }
     ensures reactions { ⟦<(MessageId, UserId, Text) as Ord>⟧.cmp ≡ reaction_cmp }
-{
+{}
+
+#[cfg(test)]
+mod tests {
+    use super::*;
+
+    #[test]
+    fn the_laws_are_called() {
+        keys_are_in_order();
+        code_compares_keys_in_their_order();
+    }
 }

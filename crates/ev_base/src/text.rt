@@ -1,6 +1,6 @@
 //! Texts by their kind, which says how long one may be and which characters it may have.
 
-ghost use Rattle.std.specs.Prelude.{◌≡◌, ◌⊎◌, length, IfErr, IfOk, None, Some, nat_eq};
+ghost use Rattle.std.specs.Prelude.{◌≡◌, ◌⊎◌, ℕ, List, length, IfErr, IfOk, None, Some, nat_eq};
 ghost use Rattle.std.specs.Str.{chars};
 ghost use Rattle.std.specs.Ordering.{nat_cmp};
 ghost use Rattle.std.specs.Cmp.{partial_equiv_from_equiv};
@@ -43,6 +43,11 @@ pub enum TextFault {
 }
 
 impl fmt::Display for TextFault {
+    ghost use Rattle.std.specs.Prelude.{Some};
+    ghost use Rattle.ev_base.specs.Texts.{fault_text};
+
+    ghost output = { λ fault. Some (fault_text fault) };
+
     fn fmt<W: fmt::Write>(&self, f: &mut fmt::Formatter<W>) -> fmt::Result {
         match self {
             TextFault::TooShort { chars } => write!(f, "too short at {chars} characters"),
@@ -95,7 +100,8 @@ impl TextKind {
         if self.most() < chars {
             return Some(TextFault::TooLong { chars });
         }
-        self.bad_place(text).map(|place| TextFault::BadChar { place })
+        self.bad_place(text)
+            .map(|place| TextFault::BadChar { place })
     }
 
     fn least(self) -> u64
@@ -180,6 +186,12 @@ impl Text {
     }
 }
 
+/// Every text, whatever its kind, is also a realm's description or the content of a message.
+pub fn texts_are_descriptions_or_contents()
+    ensures { (text : List ℕ) → IsText text
+        → (fault_of TextKind.RealmDescription text ≡ None) ⊎ (fault_of TextKind.Content text ≡ None) }
+{}
+
 impl Clone for Text {
     ghost is_clone = { λ text copy. copy ≡ text };
 
@@ -254,5 +266,114 @@ impl fmt::Display for Text {
 
     fn fmt<W: fmt::Write>(&self, f: &mut fmt::Formatter<W>) -> fmt::Result {
         fmt::Display::fmt(&self.inner, f)
+    }
+}
+
+#[cfg(test)]
+mod tests {
+    use super::*;
+    use std::iter;
+    use std::mem::size_of;
+    use std::test::Fail;
+
+    const _: () = prove!(size_of::<Text>() == 24);
+
+    #[test]
+    fn each_kind_takes_and_refuses(rt: HostRuntime) {
+        let bad = |place: u64| Some(TextFault::BadChar { place });
+        let short = |chars: u64| Some(TextFault::TooShort { chars });
+        for (kind, text, fault) in [
+            (TextKind::RealmName, "Zulip é", None),
+            (TextKind::RealmName, "a\u{7f}", bad(1)),
+            (TextKind::RealmDescription, "", None),
+            (TextKind::RealmDescription, "é\n", bad(1)),
+            (TextKind::StreamName, "lab", None),
+            (TextKind::StreamName, "", short(0)),
+            (TextKind::StreamDescription, "", None),
+            (TextKind::StreamDescription, "\u{1f}", bad(0)),
+            (TextKind::Topic, "t", None),
+            (TextKind::Topic, "", short(0)),
+            (TextKind::Topic, "a\t", bad(1)),
+            (TextKind::FullName, "Ann Å", None),
+            (TextKind::FullName, "A\u{0}", bad(1)),
+            (TextKind::Email, "ann@x.org", None),
+            (TextKind::Email, "é:x", bad(1)),
+            (TextKind::Email, "a b", bad(1)),
+            (TextKind::ApiKey, "k1Z", None),
+            (TextKind::ApiKey, "k1é", bad(2)),
+            (TextKind::Content, "two\nlines\t", None),
+            (TextKind::Content, "ab\u{0}", bad(2)),
+            (TextKind::Emoji, "+1_thumbs-up", None),
+            (TextKind::Emoji, "Tada", bad(0)),
+            (TextKind::Color, "#c2c2c2", None),
+            (TextKind::Color, "#c2c2c", short(6)),
+            (
+                TextKind::Color,
+                "#c2c2c2c",
+                Some(TextFault::TooLong { chars: 8 }),
+            ),
+            (TextKind::Color, "#C2c2c2", bad(1)),
+            (TextKind::Color, "c#c2c2c", bad(0)),
+        ] {
+            assert_eq!(rt; kind.fault(text), fault, "{kind:?} {text:?}");
+        }
+    }
+
+    #[test]
+    fn lengths_are_counted_in_characters(rt: HostRuntime) -> Result<(), Fail> {
+        for (kind, character, most) in [
+            (TextKind::RealmName, 'é', 60),
+            (TextKind::RealmDescription, 'é', 1_024),
+            (TextKind::StreamName, 'é', 60),
+            (TextKind::StreamDescription, 'é', 1_024),
+            (TextKind::Topic, 'é', 60),
+            (TextKind::FullName, 'é', 100),
+            (TextKind::Email, 'é', 100),
+            (TextKind::ApiKey, 'k', 64),
+            (TextKind::Content, 'é', 10_000),
+            (TextKind::Emoji, 'k', 40),
+        ] {
+            let longest = iter::repeat_n(character, most).collect::<String>(rt.alloc())?;
+            assert_eq!(rt; kind.fault(&longest), None, "{kind:?}");
+            let longer = format!(in rt.alloc(); "{longest}{character}")?;
+            let chars = most as u64 + 1;
+            assert_eq!(rt;
+                kind.fault(&longer),
+                Some(TextFault::TooLong { chars }),
+                "{kind:?}"
+            );
+        }
+        Ok(())
+    }
+
+    #[test]
+    fn a_text_is_read_compared_and_printed(rt: HostRuntime) -> Result<(), Fail> {
+        let topic = Text::read(rt.alloc(), TextKind::Topic, "lunch")?;
+        assert_eq!(rt; topic.as_str(), "lunch");
+        assert_eq!(rt; topic, topic.clone()?);
+        assert_eq!(rt;
+            format!(in rt.alloc(); "{topic} {topic:?}")?.as_str(),
+            "lunch \"lunch\""
+        );
+        let later = Text::read(rt.alloc(), TextKind::Topic, "lunches")?;
+        assert!(rt; topic < later && topic != later);
+        let refused = Text::read(rt.alloc(), TextKind::Topic, "");
+        assert_eq!(rt; refused.err(), Some(TextFault::TooShort { chars: 0 }));
+        for (fault, text) in [
+            (
+                TextFault::TooShort { chars: 0 },
+                "too short at 0 characters",
+            ),
+            (
+                TextFault::TooLong { chars: 61 },
+                "too long at 61 characters",
+            ),
+            (TextFault::BadChar { place: 1 }, "bad character at place 1"),
+            (TextFault::NoMemory, "out of memory"),
+        ] {
+            assert_eq!(rt; format!(in rt.alloc(); "{fault}")?.as_str(), text);
+        }
+        texts_are_descriptions_or_contents();
+        Ok(())
     }
 }

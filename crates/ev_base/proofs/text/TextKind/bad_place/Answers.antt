@@ -13,7 +13,7 @@ loop-c-preserved c =
     let held = c.loop-c.invariant in
     let parts = c.in-Some.ensures.steps.0 in (
       IsUtf8-past_char _ _ _ held.0 parts,
-      place_fits c.args.self _ _ _ _ held.0 parts _ held.1,
+      place_fits _ _ _ _ _ parts held.1,
       sym (bad_place-allowed _ _ _ _ _ held.0 parts (sym c.may_have.ensures ∙ c.if-not-may_have.false)) ∙ held.2,
     )
 
