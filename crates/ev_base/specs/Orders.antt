@@ -1,8 +1,8 @@
 -- The order of each key of the tables and sections.
-use Rattle.std.specs.Prelude.{ℕ, List}
+use Rattle.std.specs.Prelude.{◌≡◌, ℕ, List}
 use Rattle.std.proofs.Common.{ap}
 use Rattle.std.specs.declared.cmp.Ordering.{Ordering}
-use Rattle.std.specs.Ordering.{nat_cmp, ordering_then}
+use Rattle.std.specs.Ordering.{nat_cmp, on, ordering_then}
 use Rattle.std.specs.Cmp.Lexicographic.{slice_cmp}
 use Rattle.std.proofs.lemmas.Cmp.{nat_cmp_total, nat_list_cmp_total, on_total, then_total}
 use Rattle.std.proofs.lemmas.Map.Lookups.{exact_bytes, exact_pairs, exact_unsigned}
@@ -28,12 +28,15 @@ abbrev pub text_cmp : List ℕ → List ℕ → Ordering
 text_cmp = slice_cmp nat_cmp
 
 -- pairs by the first part, and then by the second
-abbrev pub pair_cmp : {A B : Type 0} → (A → A → Ordering) → (B → B → Ordering) → A × B → A × B → Ordering
+abbrev pub pair_cmp : {A B : Type 0} → (A → A → Ordering) → (B → B → Ordering)
+    → A × B → A × B → Ordering
 pair_cmp first second a b = ordering_then (first a.0 b.0) (second a.1 b.1)
 
 -- triples by the first part, then by the second, then by the third
-abbrev pub triple_cmp : {A B C : Type 0} → (A → A → Ordering) → (B → B → Ordering) → (C → C → Ordering) → A × B × C → A × B × C → Ordering
-triple_cmp first second third a b = ordering_then (first a.0 b.0) (ordering_then (second a.1 b.1) (third a.2 b.2))
+abbrev pub triple_cmp : {A B C : Type 0} → (A → A → Ordering) → (B → B → Ordering) → (C → C → Ordering)
+    → A × B × C → A × B × C → Ordering
+triple_cmp first second third a b =
+    ordering_then (first a.0 b.0) (ordering_then (second a.1 b.1) (third a.2 b.2))
 
 -- a user's streams
 abbrev pub user_stream_cmp : UserId × StreamId → UserId × StreamId → Ordering
@@ -51,29 +54,32 @@ stream_user_cmp = pair_cmp stream_cmp user_cmp
 abbrev pub reaction_cmp : MessageId × UserId × List ℕ → MessageId × UserId × List ℕ → Ordering
 reaction_cmp = triple_cmp message_cmp user_cmp text_cmp
 
-pub user_order : KeyOrder user_cmp
-user_order = record {
-  total = on_total (λ (user : UserId). user.0) nat_cmp_total;
-  exact = λ a b same. ap (λ (n : ℕ). record { 0 = n }) (exact_unsigned a.0 b.0 same);
+-- things with a number, which tells them apart, are in the order of their numbers
+pub number_order : {K : Type 0} (number : K → ℕ) → ((a b : K) → number a ≡ number b → a ≡ b)
+    → KeyOrder (on number nat_cmp)
+number_order number apart = record {
+  total = on_total number nat_cmp_total;
+  exact = λ a b same. apart a b (exact_unsigned (number a) (number b) same);
 }
+
+pub user_order : KeyOrder user_cmp
+user_order =
+    number_order (λ (user : UserId). user.0) (λ a b same. ap (λ (n : ℕ). record { 0 = n }) same)
 
 pub stream_order : KeyOrder stream_cmp
-stream_order = record {
-  total = on_total (λ (stream : StreamId). stream.0) nat_cmp_total;
-  exact = λ a b same. ap (λ (n : ℕ). record { 0 = n }) (exact_unsigned a.0 b.0 same);
-}
+stream_order =
+    number_order (λ (stream : StreamId). stream.0) (λ a b same. ap (λ (n : ℕ). record { 0 = n }) same)
 
 pub message_order : KeyOrder message_cmp
-message_order = record {
-  total = on_total (λ (message : MessageId). message.0) nat_cmp_total;
-  exact = λ a b same. ap (λ (n : ℕ). record { 0 = n }) (exact_unsigned a.0 b.0 same);
-}
+message_order =
+    number_order (λ (message : MessageId). message.0) (λ a b same. ap (λ (n : ℕ). record { 0 = n }) same)
 
 pub text_order : KeyOrder text_cmp
 text_order = record { total = nat_list_cmp_total; exact = exact_bytes }
 
 -- pairs are in order where their parts are
-pub pair_order : {A B : Type 0} {first : A → A → Ordering} {second : B → B → Ordering} → KeyOrder first → KeyOrder second → KeyOrder (pair_cmp first second)
+pub pair_order : {A B : Type 0} {first : A → A → Ordering} {second : B → B → Ordering}
+    → KeyOrder first → KeyOrder second → KeyOrder (pair_cmp first second)
 pair_order {A} {B} {first} {second} a b = record {
   total = then_total (on_total (λ (key : A × B). key.0) a.total) (on_total (λ (key : A × B). key.1) b.total);
   exact = exact_pairs first second a.exact b.exact;

@@ -1,4 +1,4 @@
--- The kinds of text: how many characters each may have, and which. Lengths and places are counted in characters.
+-- The kinds of text. Lengths and places are counted in characters.
 use Rattle.std.specs.Prelude.{◌≡◌, ℕ, ◌+◌, nat_lt, ◌==◌, Bool, not, ◌&&◌, ◌||◌, if◌then◌else◌, List, [], ◌∷◌, ◌++◌, length, Option, Some, None, option_map, codes}
 use Rattle.std.specs.List.{list_any}
 use Rattle.std.specs.Char.{is_ascii_alphanumeric, is_ascii_control, is_ascii_digit, is_ascii_hexdigit, is_ascii_lowercase, is_ascii_uppercase}
@@ -41,7 +41,7 @@ most Color = 7
 abbrev pub is_one_of : List ℕ → ℕ → Bool
 is_one_of text c = list_any (λ x. c == x) text
 
--- a text of a kind may have the character c at a place: the controls are U+0000 to U+001F, and U+007F
+-- a text of a kind may have the character c at a place; controls are U+0000 to U+001F and U+007F
 abbrev pub may_have : TextKind → ℕ → ℕ → Bool
 may_have RealmName place c = not (is_ascii_control c)
 may_have RealmDescription place c = not (is_ascii_control c)
@@ -54,12 +54,14 @@ may_have ApiKey place c = is_ascii_alphanumeric c
 may_have Content place c = not (c == 0)
 may_have Emoji place c = is_ascii_lowercase c || is_ascii_digit c || is_one_of (codes "_+-") c
 may_have Color place c =
-    if place == 0 then is_one_of (codes "#") c else is_ascii_hexdigit c && not (is_ascii_uppercase c)
+    if place == 0 then is_one_of (codes "#") c
+    else is_ascii_hexdigit c && not (is_ascii_uppercase c)
 
--- the first place whose character a text of a kind may not have, where the characters begin at a place
+-- the first character that a text of a kind may not have: the characters begin at a place
 abbrev pub bad_place : TextKind → ℕ → List ℕ → Option ℕ
 bad_place kind place [] = None
-bad_place kind place (c ∷ cs) = if may_have kind place c then bad_place kind (place + 1) cs else Some place
+bad_place kind place (c ∷ cs) =
+    if may_have kind place c then bad_place kind (place + 1) cs else Some place
 
 -- why characters are no text of a kind: their number first, and then the first bad one
 abbrev pub fault_of_chars : TextKind → List ℕ → Option TextFault

@@ -168,7 +168,8 @@ impl Text {
     /// Reads a text of a kind.
     pub fn read(alloc: Global, kind: TextKind, s: &str) -> Result<Text, TextFault>
         ensures ok { IfOk result (λ text. (text ≡ s.now) × (fault_of kind s.now ≡ None)) }
-        ensures err { IfErr result (λ e. (fault_of kind s.now ≡ Some e) ⊎ (e ≡ TextFault.NoMemory)) }
+        ensures err { IfErr result
+            (λ fault. (fault_of kind s.now ≡ Some fault) ⊎ (fault ≡ TextFault.NoMemory)) }
     {
         if let Some(fault) = kind.fault(s) {
             return Err(fault);
@@ -189,7 +190,8 @@ impl Text {
 /// Every text, whatever its kind, is also a realm's description or the content of a message.
 pub fn texts_are_descriptions_or_contents()
     ensures { (text : List ℕ) → IsText text
-        → (fault_of TextKind.RealmDescription text ≡ None) ⊎ (fault_of TextKind.Content text ≡ None) }
+        → (fault_of TextKind.RealmDescription text ≡ None)
+        ⊎ (fault_of TextKind.Content text ≡ None) }
 {}
 
 impl Clone for Text {
