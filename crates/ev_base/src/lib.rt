@@ -1,6 +1,24 @@
 //! The base of every other crate: ids, texts, small enums, and lists of rows that rise by key.
 #![tactic(auto)]
 
+mod exact_clone;
+mod expired;
+mod ids;
+mod kinds;
+mod listed;
 mod memory;
+mod orders;
+mod place;
+mod text;
 
+pub use exact_clone::ExactClone;
+pub use expired::Expired;
+pub use ids::{
+    MessageId, QueueId, StreamId, UserId, queue_texts_have_36_bytes, queue_texts_read_back,
+};
+pub use kinds::{Flag, Privacy, Role, role_numbers_read_back};
+pub use listed::Listed;
 pub use memory::NoMemory;
+pub use orders::{code_compares_keys_in_their_order, keys_are_in_order};
+pub use place::Place;
+pub use text::{Text, TextFault, TextKind};

@@ -1,0 +1,2 @@
+pub mod QueueTexts
+pub mod TextLemmas
