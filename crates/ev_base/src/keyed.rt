@@ -1,0 +1,149 @@
+ghost use Rattle.std.specs.Prelude.{◌≡◌, Bool, ◌-◌, ◌≤◌, ◌+◌, ◌↔◌, [], length, filter, if◌then◌else◌, is_some, IsTrue, IsNone, OnOk, option_copied, vec_len, vec_capacity};
+ghost use Rattle.std.specs.Fn.{CalledAt, ComputesKey};
+ghost use Rattle.std.specs.List.Retain.{IsFiltered};
+ghost use Rattle.std.specs.List.Sorted.{IsSearchInRange};
+ghost use Rattle.std.specs.Map.{remove_entry};
+ghost use Rattle.std.specs.BTreeMap.{insert_entry, is_at};
+ghost use Rattle.ev_base.specs.Rows.{RowsRise, row_at, is_outside};
+ghost use Rattle.ev_base.specs.Place.{IsPlace};
+
+use crate::memory::NoMemory;
+use std::alloc::Global;
+use std::marker::Model;
+use std::mem;
+
+/// Rows of a key and a value that rise by key, in one block of memory.
+///
+/// `reserve` makes room for more rows; no other call takes memory.
+#[derive(Debug, Drop)]
+pub struct Keyed<K: Ord, V> {
+    rows: Vec<(K, V)>,
+}
+
+impl<K: Ord, V> Model for Keyed<K, V> {
+    ghost use Rattle.std.specs.Prelude.{◌-◌, vec_len, vec_capacity};
+    ghost use Rattle.ev_base.specs.Rows.{Table, RowsRise};
+
+    ghost Value = { Table K V };
+
+    ghost view = { λ it. record { rows = it.rows.items; spare = vec_capacity it.rows - vec_len it.rows } };
+
+    ghost invariant = { λ it. RowsRise K.cmp it.rows.items };
+}
+
+impl<K: Ord, V> Keyed<K, V> {
+    /// No row. What is allocated later comes from `alloc`.
+    pub fn new(alloc: Global) -> Self
+        ensures { result.rows ≡ [] }
+    {
+        Keyed {
+            rows: Vec::new(alloc),
+        }
+    }
+
+    pub fn from_vec(rows: Vec<(K, V)>) -> Self
+        requires { RowsRise K.cmp rows.items }
+        ensures rows { result.rows ≡ rows.items }
+        ensures room { result.spare ≡ vec_capacity rows - vec_len rows }
+    {
+        Keyed { rows }
+    }
+
+    pub fn into_vec(self) -> Vec<(K, V)>
+        ensures rows { result.items ≡ self.rows }
+        ensures rise { RowsRise K.cmp self.rows }
+        ensures room { vec_capacity result - vec_len result ≡ self.spare }
+    {
+        let Keyed { rows } = self;
+        rows
+    }
+
+    pub fn rows(&self) -> &[(K, V)]
+        ensures all { result.now ≡ self.now.rows }
+        ensures rise { RowsRise K.cmp self.now.rows }
+    {
+        &self.rows
+    }
+
+    pub fn len(&self) -> usize
+        ensures { result ≡ length self.now.rows }
+    {
+        self.rows.len()
+    }
+
+    pub fn is_empty(&self) -> bool
+        ensures { IsTrue result ↔ (self.now.rows ≡ []) }
+    {
+        self.rows.is_empty()
+    }
+
+    /// Makes room for `more` rows that are not there yet.
+    pub fn reserve(&mut self, more: usize) -> Result<(), NoMemory>
+        ensures room { OnOk result (more ≤ self.new.spare) }
+        ensures rows { self.new.rows ≡ self.old.rows }
+        ensures spare { self.old.spare ≤ self.new.spare }
+    {
+        Ok(self.rows.reserve(more)?)
+    }
+
+    pub fn get(&self, key: &K) -> Option<&V>
+        ensures { option_copied result ≡ row_at K.cmp self.now.rows key.now }
+    {
+        match self.place(key) {
+            Ok(at) => Some(&self.rows[at].1),
+            Err(_) => None,
+        }
+    }
+
+    // Where the key's row stands, or where it would.
+    fn place(&self, key: &K) -> Result<usize, usize>
+        ensures place { IsPlace (K.cmp key.now) self.now.rows result }
+        ensures within { IsSearchInRange result (length self.now.rows) }
+        ensures rise { RowsRise K.cmp self.now.rows }
+    {
+        self.rows.binary_search_by(|row| row.0.cmp(key))
+    }
+}
+
+impl<K: Ord + Drop, V: Drop> Keyed<K, V> {
+    /// Writes the key's row, and answers the value that it had. A key that is there stays as it is.
+    pub fn put(&mut self, key: K, value: V) -> Option<V>
+        requires { IsNone (row_at K.cmp self.old.rows key) → 1 ≤ self.old.spare }
+        ensures before { result ≡ row_at K.cmp self.old.rows key }
+        ensures rows { self.new.rows ≡ insert_entry K.cmp self.old.rows key value }
+        ensures room { self.old.spare ≤ self.new.spare + (if is_some result then 0 else 1) }
+    {
+        match self.place(&key) {
+            Ok(at) => {
+                let row = &mut self.rows[at];
+                Some(mem::replace(&mut row.1, value))
+            }
+            Err(at) => {
+                self.rows.insert(at, (key, value)).unwrap();
+                None
+            }
+        }
+    }
+
+    /// Takes the key's row out, and answers its value.
+    pub fn drop_key(&mut self, key: &K) -> Option<V>
+        ensures before { result ≡ row_at K.cmp self.old.rows key.now }
+        ensures rows { self.new.rows ≡ remove_entry (is_at (K.cmp key.now)) self.old.rows }
+        ensures room { self.old.spare ≤ self.new.spare }
+    {
+        match self.place(key) {
+            Ok(at) => Some(self.rows.remove(at).1),
+            Err(_) => None,
+        }
+    }
+
+    /// Keeps the rows that pass the test.
+    pub fn keep<F: FnMut(&(K, V)) -> bool>(&mut self, test: F)
+        requires { F.IsAlwaysCallable test }
+        ensures rows { (p : K × V → Bool) → ComputesKey F.FnMut p test → self.new.rows ≡ filter p self.old.rows }
+        ensures calls { IsFiltered (CalledAt F.FnMut) test self.old.rows self.new.rows }
+        ensures room { self.old.spare ≤ self.new.spare }
+    {
+        self.rows.retain(test);
+    }
+}
