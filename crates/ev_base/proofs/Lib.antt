@@ -1,3 +1,4 @@
 pub mod KeepLemmas
+pub mod RangeLemmas
 pub mod RiseLemmas
 pub mod PlaceLemmas

@@ -53,6 +53,24 @@ module _ {K V : Type 0} (cmp : K → K → Ordering) (key : K) (value : V) where
   insert_entry-gap (row ∷ rows) zero gap = rw gap
   insert_entry-gap (row ∷ rows) (suc at) gap = let head = gap.0 in rw head (ap (λ rest. row ∷ rest) (insert_entry-gap rows at gap.1))
 
+module _ {K V : Type 0} (cmp : K → K → Ordering) where
+  get_or-keys_of : (rows : List (K × V)) (k : ℕ) (d : K × V) → get_or (keys_of rows) k d.0 ≡ (get_or rows k d).0
+  get_or-keys_of [] k d = refl
+  get_or-keys_of (row ∷ rows) zero d = refl
+  get_or-keys_of (row ∷ rows) (suc k) d = get_or-keys_of rows k d
+
+  length-keys_of : (rows : List (K × V)) → length (keys_of rows) ≡ length rows
+  length-keys_of [] = refl
+  length-keys_of (row ∷ rows) = ap suc (length-keys_of rows)
+
+  -- of two rows that rise, the earlier one's key is below the later one's
+  pub below-from_rise : (rows : List (K × V)) → RowsRise cmp rows → (i j : ℕ) (d : K × V) → i < j → j < length rows → cmp (get_or rows i d).0 (get_or rows j d).0 ≡ Less
+  below-from_rise rows rise i j d before within =
+      let less = Less-from_sorted cmp (keys_of rows) i j d.0 rise before (omega (arith, length-keys_of rows)) in
+      let one = get_or-keys_of rows i d in
+      let other = get_or-keys_of rows j d in
+      rw (one, other) at less
+
 module _ {K V : Type 0} {cmp : K → K → Ordering} (total : IsTotalOrder cmp) (key : K) where
   -- a key below all the rows has none
   pub lookup-below : (rows : List (K × V)) → IsBelow cmp key rows → row_at cmp rows key ≡ None
@@ -97,23 +115,9 @@ module _ {K V : Type 0} {cmp : K → K → Ordering} (total : IsTotalOrder cmp) 
       gap_from_parts rows at (omega arith) (λ k d low high. less (suc k) d (omega arith) (omega arith)) (λ k d low high. greater (suc k) d (omega arith) (omega arith)),
     )
 
-  get_or-keys_of : (rows : List (K × V)) (k : ℕ) (d : K × V) → get_or (keys_of rows) k d.0 ≡ (get_or rows k d).0
-  get_or-keys_of [] k d = refl
-  get_or-keys_of (row ∷ rows) zero d = refl
-  get_or-keys_of (row ∷ rows) (suc k) d = get_or-keys_of rows k d
-
-  length-keys_of : (rows : List (K × V)) → length (keys_of rows) ≡ length rows
-  length-keys_of [] = refl
-  length-keys_of (row ∷ rows) = ap suc (length-keys_of rows)
-
   -- rows that rise are sorted as a binary search asks
   sorted_from_rise : (rows : List (K × V)) → RowsRise cmp rows → IsSortedBy (λ (a b : K × V). is_lt (cmp a.0 b.0)) rows
-  sorted_from_rise rows rise k d low high =
-      let rows_long = length-keys_of rows in
-      let less = Less-from_sorted cmp (keys_of rows) k (k + 1) d.0 rise (omega arith) (omega arith) in
-      let here = get_or-keys_of rows k d in
-      let next = get_or-keys_of rows (k + 1) d in
-      ap is_lt (above-below total _ _ (rw (here, next) at less))
+  sorted_from_rise rows rise k d low high = ap is_lt (above-below total _ _ (below-from_rise cmp rows rise k (k + 1) d (omega arith) high))
 
   pub place_from_search : (rows : List (K × V)) (place : Result ℕ ℕ) → RowsRise cmp rows → IsSearchInRange place (length rows)
       → IsBinarySearchResult (λ row. cmp row.0 key) rows place → IsPlace (cmp key) rows place

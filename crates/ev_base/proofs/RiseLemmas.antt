@@ -127,3 +127,19 @@ module _ {K V : Type 0} (cmp : K → K → Ordering) where
   rise-items_where_true (true ∷ bs) (row ∷ rows) rise =
       rise-cons cmp row (items_where_true bs rows) (IsBelow-items_where_true row.0 bs rows (rise_head cmp row rows rise)) (rise-items_where_true bs rows (rise_tail cmp row rows rise))
   rise-items_where_true (false ∷ bs) (row ∷ rows) rise = rise-items_where_true bs rows (rise_tail cmp row rows rise)
+
+  IsBelow-filter : (low : K) (test : K × V → Bool) (rows : List (K × V)) → IsBelow cmp low rows → IsBelow cmp low (filter test rows)
+  IsBelow-filter low test [] below = tt
+  IsBelow-filter low test (row ∷ rows) below = go (test row) (IsBelow-filter low test rows below.1)
+    where
+      go : (b : Bool) → IsBelow cmp low (filter test rows) → IsBelow cmp low (cond b (row ∷ filter test rows) (filter test rows))
+      go true further = (below.0, further)
+      go false further = further
+
+  pub rise-filter : (test : K × V → Bool) (rows : List (K × V)) → RowsRise cmp rows → RowsRise cmp (filter test rows)
+  rise-filter test [] rise = rise
+  rise-filter test (row ∷ rows) rise = go (test row) (rise-filter test rows (rise_tail cmp row rows rise))
+    where
+      go : (b : Bool) → RowsRise cmp (filter test rows) → RowsRise cmp (cond b (row ∷ filter test rows) (filter test rows))
+      go true further = rise-cons cmp row (filter test rows) (IsBelow-filter row.0 test rows (rise_head cmp row rows rise)) further
+      go false further = further

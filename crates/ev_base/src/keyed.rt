@@ -1,5 +1,6 @@
 ghost use Rattle.std.specs.Prelude.{◌≡◌, Bool, ◌-◌, ◌≤◌, ◌+◌, ◌↔◌, [], length, filter, if◌then◌else◌, is_some, IsTrue, IsNone, OnOk, option_copied, vec_len, vec_capacity};
 ghost use Rattle.std.specs.Fn.{CalledAt, ComputesKey};
+ghost use Rattle.std.specs.List.{remove_range};
 ghost use Rattle.std.specs.List.Retain.{IsFiltered};
 ghost use Rattle.std.specs.List.Sorted.{IsSearchInRange};
 ghost use Rattle.std.specs.Map.{remove_entry};
@@ -103,6 +104,19 @@ impl<K: Ord, V> Keyed<K, V> {
     {
         self.rows.binary_search_by(|row| row.0.cmp(key))
     }
+
+    // From the place of the first key that isn't below `low` to that of the first above `high`.
+    fn places_between(&self, low: &K, high: &K) -> (usize, usize)
+        ensures order { result.0 ≤ result.1 }
+        ensures within { result.1 ≤ length self.now.rows }
+        ensures outside { filter (λ row. is_outside K.cmp low.now high.now row.0) self.now.rows
+            ≡ remove_range self.now.rows result.0 result.1 }
+        ensures rise { RowsRise K.cmp self.now.rows }
+    {
+        let start = self.rows.partition_point(|row| row.0.cmp(low).is_lt());
+        let end = self.rows.partition_point(|row| row.0.cmp(high).is_le());
+        (start, start.max(end))
+    }
 }
 
 impl<K: Ord + Drop, V: Drop> Keyed<K, V> {
@@ -135,6 +149,18 @@ impl<K: Ord + Drop, V: Drop> Keyed<K, V> {
             Ok(at) => Some(self.rows.remove(at).1),
             Err(_) => None,
         }
+    }
+
+    /// Takes out the rows whose keys are from `low` to `high`, both included, and answers how many.
+    pub fn drop_between(&mut self, low: &K, high: &K) -> u64
+        ensures rows { self.new.rows
+            ≡ filter (λ row. is_outside K.cmp low.now high.now row.0) self.old.rows }
+        ensures count { result + length self.new.rows ≡ length self.old.rows }
+        ensures room { self.old.spare ≤ self.new.spare }
+    {
+        let (start, end) = self.places_between(low, high);
+        self.rows.drain(start..end);
+        (end - start) as u64
     }
 
     /// Keeps the rows that pass the test.
