@@ -1,4 +1,6 @@
 ghost use Rattle.std.specs.Prelude.{◌≡◌, Bool, ◌-◌, ◌≤◌, ◌+◌, ◌↔◌, [], length, filter, if◌then◌else◌, is_some, IsTrue, IsNone, OnOk, option_copied, vec_len, vec_capacity};
+ghost use Rattle.std.specs.Option.{option_copied_mut};
+ghost use Rattle.std.specs.Borrow.{sem};
 ghost use Rattle.std.specs.Fn.{CalledAt, ComputesKey};
 ghost use Rattle.std.specs.List.{remove_range};
 ghost use Rattle.std.specs.List.Retain.{IsFiltered};
@@ -6,7 +8,8 @@ ghost use Rattle.std.specs.List.Sorted.{IsSearchInRange};
 ghost use Rattle.std.specs.Map.{remove_entry};
 ghost use Rattle.std.specs.BTreeMap.{insert_entry, is_at};
 ghost use Rattle.ev_base.specs.Rows.{RowsRise, row_at, is_outside};
-ghost use Rattle.ev_base.specs.Place.{IsPlace};
+ghost use Rattle.ev_base.specs.Lent.{lends_value, lends_if_there};
+ghost use Rattle.ev_base.specs.Place.{IsFoundAt, IsPlace};
 
 use crate::memory::NoMemory;
 use std::alloc::Global;
@@ -94,6 +97,25 @@ impl<K: Ord, V> Keyed<K, V> {
             Ok(at) => Some(&self.rows[at].1),
             Err(_) => None,
         }
+    }
+
+    pub fn get_mut(&mut self, key: &K) -> Option<&mut V>
+        ensures* writes_back { sem 𝓛 (lends_if_there K.row V.row K.Ord self.entry key.now result) }
+        ensures value { option_copied_mut result ≡ row_at K.cmp self.old.rows key.now }
+    {
+        match self.place(key) {
+            Ok(at) => Some(self.value_mut(key, at)),
+            Err(_) => None,
+        }
+    }
+
+    fn value_mut(&mut self, key: &K, at: usize) -> &mut V
+        requires { IsFoundAt (K.cmp key.now) self.old.rows at }
+        ensures* writes_back { sem 𝓛 (lends_value K.row V.row K.Ord self.entry key.now result) }
+        ensures value { Some result.now ≡ row_at K.cmp self.old.rows key.now }
+    {
+        let row = &mut self.rows[at];
+        &mut row.1
     }
 
     // Where the key's row stands, or where it would.
