@@ -1,5 +1,5 @@
 -- Lists of rows that rise by key: one row in front, and the edits that keep them rising.
-use Rattle.std.proofs.Common.{◌≡◌, Bool, true, false, cond, List, [], ◌∷◌, map, filter, Less, Equal, Greater, Ordering, Option, None, Some, option_map, sym, ap, subst, refl, ◌∙◌}
+use Rattle.std.proofs.Common.{◌≡◌, Bool, true, false, cond, List, [], ◌∷◌, ◌++◌, filter, Less, Equal, Greater, Ordering, Option, None, Some, option_map, sym, ap, subst, refl, ◌∙◌}
 use Rattle.std.specs.Cmp.{IsTotalOrder}
 use Rattle.std.specs.Ordering.{match_ordering, ordering_reverse}
 use Rattle.std.specs.List.{AllByRecursion, cons_option, items_where_true}
@@ -13,6 +13,10 @@ use Rattle.ev_base.specs.Rows.{RowsRise, keys_of, sift}
 -- the key is below those of all the rows
 abbrev pub IsBelow : {K V : Type 0} → (K → K → Ordering) → K → List (K × V) → Type 0
 IsBelow cmp key rows = AllByRecursion (λ k. cmp key k ≡ Less) (keys_of rows)
+
+-- the keys of all the rows are below this one
+abbrev pub AreBelow : {K V : Type 0} → (K → K → Ordering) → List (K × V) → K → Type 0
+AreBelow cmp rows key = AllByRecursion (λ k. cmp k key ≡ Less) (keys_of rows)
 
 pub rise-nil : {K : Type 0} (cmp : K → K → Ordering) → IsStrictlySortedBy cmp []
 unfolding IsStrictlySortedBy
@@ -31,6 +35,19 @@ module _ {K V : Type 0} (cmp : K → K → Ordering) where
   pub rise_tail : (row : K × V) (rows : List (K × V)) → RowsRise cmp (row ∷ rows) → RowsRise cmp rows
   unfolding IsStrictlySortedBy
   rise_tail row rows rise = rise.1
+
+module _ {K V : Type 0} (cmp : K → K → Ordering) where
+  below_front : (key : K) (rows : List (K × V)) (last : K × V) → IsBelow cmp key (rows ++ last ∷ []) → IsBelow cmp key rows × (cmp key last.0 ≡ Less)
+  below_front key [] last below = (tt, below.0)
+  below_front key (row ∷ rows) last below = let further = below_front key rows last below.1 in ((below.0, further.0), further.1)
+
+  -- rows that rise end with their greatest key
+  pub rise_front : (rows : List (K × V)) (last : K × V) → RowsRise cmp (rows ++ last ∷ []) → RowsRise cmp rows × AreBelow cmp rows last.0
+  rise_front [] last rise = (rise-nil cmp, tt)
+  rise_front (row ∷ rows) last rise =
+      let further = rise_front rows last (rise_tail cmp row (rows ++ last ∷ []) rise) in
+      let below = below_front row.0 rows last (rise_head cmp row (rows ++ last ∷ []) rise) in
+      (rise-cons cmp row rows below.0 further.0, (below.1, further.1))
 
 module _ {K : Type 0} {cmp : K → K → Ordering} (total : IsTotalOrder cmp) where
   -- the two sides of a comparison

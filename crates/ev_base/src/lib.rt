@@ -3,6 +3,7 @@
 
 mod keyed;
 mod memory;
+mod merge;
 
 pub use keyed::Keyed;
 pub use memory::NoMemory;
