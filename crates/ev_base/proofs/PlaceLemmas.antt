@@ -1,17 +1,22 @@
 -- What a binary search finds among rows that rise, and what an edit at that place is.
-use Rattle.std.proofs.Common.{◌≡◌, ℕ, zero, suc, ◌+◌, ◌<◌, ◌≤◌, Bool, true, false, cond, List, [], ◌∷◌, length, get_or, set, map, insert, remove, Less, Equal, Greater, Ordering, Option, None, Some, Result, Ok, Err, is_lt, sym, ap, subst, refl, ◌∙◌, arith}
+use Rattle.std.proofs.Common.{◌≡◌, ℕ, zero, suc, ◌+◌, ◌<◌, ◌≤◌, Bool, true, false, cond, List, [], ◌∷◌, length, get_or, set, map, insert, remove, Less, Equal, Greater, Ordering, Option, None, Some, Result, Ok, Err, is_lt, IsTrue, ◌↔◌, true≢false, sym, ap, refl, ◌∙◌, arith}
 use Rattle.std.specs.Cmp.{IsTotalOrder}
 use Rattle.std.specs.Ordering.{match_ordering, ordering_index, is_eq}
-use Rattle.std.specs.List.{AllWithin}
+use Rattle.std.specs.List.{AllWithin, AllAdjacentBelow, IsAllAdjacentAnswer}
 use Rattle.std.specs.List.Sorted.{IsSearchInRange, IsBinarySearchResult, IsNonDecreasingBy, IsSortedBy}
 use Rattle.std.specs.Map.{lookup, remove_entry, set_value}
 use Rattle.std.specs.BTreeMap.{insert_entry, is_at}
 use Rattle.std.proofs.lemmas.Cmp.{tied_back, alike_right}
 use Rattle.std.proofs.lemmas.List.Sorted.{searchable_from_sorted}
-use Rattle.std.proofs.lemmas.Map.Keys.{Less-from_sorted}
+use Rattle.std.proofs.lemmas.Map.Keys.{Less-from_sorted, sorted_from_all_adjacent}
 use Rattle.ev_base.specs.Rows.{RowsRise, keys_of, row_at}
 use Rattle.ev_base.specs.Place.{IsFoundAt, IsGapAt, IsPlace}
-use Rattle.ev_base.proofs.RiseLemmas.{IsBelow, IsBelow-equal, IsBelow-further, rise_head, rise_tail, below-above, above-below}
+use Rattle.ev_base.proofs.RiseLemmas.{IsBelow, IsBelow-equal, IsBelow-further, rise-nil, rise_head, rise_tail, below-above, above-below}
+
+Less-from_is_lt : (o : Ordering) → is_lt o ≡ true → o ≡ Less
+Less-from_is_lt Less less = refl
+Less-from_is_lt Equal less = absurd (true≢false (sym less))
+Less-from_is_lt Greater less = absurd (true≢false (sym less))
 
 module _ {K V : Type 0} (compare : K → Ordering) where
   pub found_within : (rows : List (K × V)) (at : ℕ) → IsFoundAt compare rows at → at < length rows
@@ -53,7 +58,7 @@ module _ {K V : Type 0} (cmp : K → K → Ordering) (key : K) (value : V) where
   insert_entry-gap (row ∷ rows) zero gap = rw gap
   insert_entry-gap (row ∷ rows) (suc at) gap = let head = gap.0 in rw head (ap (λ rest. row ∷ rest) (insert_entry-gap rows at gap.1))
 
-module _ {K V : Type 0} (cmp : K → K → Ordering) where
+module _ {K V : Type 0} where
   get_or-keys_of : (rows : List (K × V)) (k : ℕ) (d : K × V) → get_or (keys_of rows) k d.0 ≡ (get_or rows k d).0
   get_or-keys_of [] k d = refl
   get_or-keys_of (row ∷ rows) zero d = refl
@@ -63,6 +68,7 @@ module _ {K V : Type 0} (cmp : K → K → Ordering) where
   length-keys_of [] = refl
   length-keys_of (row ∷ rows) = ap suc (length-keys_of rows)
 
+module _ {K V : Type 0} (cmp : K → K → Ordering) where
   -- of two rows that rise, the earlier one's key is below the later one's
   pub below-from_rise : (rows : List (K × V)) → RowsRise cmp rows → (i j : ℕ) (d : K × V) → i < j → j < length rows → cmp (get_or rows i d).0 (get_or rows j d).0 ≡ Less
   below-from_rise rows rise i j d before within =
@@ -70,6 +76,21 @@ module _ {K V : Type 0} (cmp : K → K → Ordering) where
       let one = get_or-keys_of rows i d in
       let other = get_or-keys_of rows j d in
       rw (one, other) at less
+
+module _ {K V : Type 0} {cmp : K → K → Ordering} (total : IsTotalOrder cmp) where
+  rise_from_adjacent : (rows : List (K × V)) → AllAdjacentBelow (λ (a b : K × V). is_lt (cmp a.0 b.0) ≡ true) rows (length rows) → RowsRise cmp rows
+  rise_from_adjacent [] less = rise-nil cmp
+  rise_from_adjacent (row ∷ rows) less = sorted_from_all_adjacent total (keys_of (row ∷ rows)) row.0 (λ k within.
+      let one = get_or-keys_of (row ∷ rows) k row in
+      let other = get_or-keys_of (row ∷ rows) (k + 1) row in
+      rw (one, other) (Less-from_is_lt _ (less k row (omega (arith, length-keys_of (row ∷ rows))))))
+
+  -- what a test of each row and the next says of the whole list
+  pub rise_from_answer : (rows : List (K × V)) (answer : Bool) → IsAllAdjacentAnswer (λ (a b : K × V) r. r ≡ is_lt (cmp a.0 b.0)) rows answer → IsTrue answer ↔ RowsRise cmp rows
+  rise_from_answer rows true less = (λ _. rise_from_adjacent rows (λ k d within. sym (less k d within)), λ _. refl)
+  rise_from_answer [] false (k, within, more) = absurd (omega arith)
+  rise_from_answer (row ∷ rows) false (k, within, more) =
+      (λ no. absurd (true≢false (sym no)), λ rise. more row ∙ ap is_lt (below-from_rise cmp (row ∷ rows) rise k (k + 1) row (omega arith) within))
 
 module _ {K V : Type 0} {cmp : K → K → Ordering} (total : IsTotalOrder cmp) (key : K) where
   -- a key below all the rows has none

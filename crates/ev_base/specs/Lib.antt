@@ -1,3 +1,4 @@
+pub mod Clones
 pub mod KeyOrder
 pub mod Lent
 pub mod Place

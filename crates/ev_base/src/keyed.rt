@@ -7,14 +7,22 @@ ghost use Rattle.std.specs.List.Retain.{IsFiltered};
 ghost use Rattle.std.specs.List.Sorted.{IsSearchInRange};
 ghost use Rattle.std.specs.Map.{remove_entry};
 ghost use Rattle.std.specs.BTreeMap.{insert_entry, is_at};
-ghost use Rattle.ev_base.specs.Rows.{RowsRise, row_at, is_outside};
+ghost use Rattle.ev_base.specs.Rows.{RowsRise, row_at, with_rows, is_outside};
 ghost use Rattle.ev_base.specs.Lent.{lends_value, lends_if_there};
 ghost use Rattle.ev_base.specs.Place.{IsFoundAt, IsPlace};
 
 use crate::memory::NoMemory;
-use std::alloc::Global;
+use crate::merge::merged;
+use std::alloc::{AllocError, Global};
 use std::marker::Model;
 use std::mem;
+
+/// Whether the rows rise by key, so that `Keyed::from_vec` takes them.
+pub fn rise<K: Ord, V>(rows: &[(K, V)]) -> bool
+    ensures { IsTrue result ↔ RowsRise K.cmp rows.now }
+{
+    rows.is_sorted_by(|a, b| a.0.cmp(&b.0).is_lt())
+}
 
 /// Rows of a key and a value that rise by key, in one block of memory.
 ///
@@ -141,6 +149,22 @@ impl<K: Ord, V> Keyed<K, V> {
     }
 }
 
+impl<K: Ord + Clone, V: Clone> Clone for Keyed<K, V> {
+    ghost use Rattle.std.specs.Prelude.{◌≡◌};
+    ghost use Rattle.ev_base.specs.Clones.{ClonesAreSame};
+
+    ghost is_clone = { λ s t. ClonesAreSame K.is_clone → ClonesAreSame V.is_clone → t.rows ≡ s.rows };
+
+    // No law says that the clones of keys stand in the keys' order, so this fails where they don't rise.
+    fn clone(&self) -> Result<Self, AllocError> {
+        let rows = self.rows.clone()?;
+        if !rise(&rows) {
+            return Err(AllocError);
+        }
+        Ok(Keyed { rows })
+    }
+}
+
 impl<K: Ord + Drop, V: Drop> Keyed<K, V> {
     /// Writes the key's row, and answers the value that it had. A key that is there stays as it is.
     pub fn put(&mut self, key: K, value: V) -> Option<V>
@@ -159,6 +183,18 @@ impl<K: Ord + Drop, V: Drop> Keyed<K, V> {
                 None
             }
         }
+    }
+
+    /// Puts each of the new rows, all in one pass.
+    pub fn merge(&mut self, new_rows: Vec<(K, V)>)
+        requires rise { RowsRise K.cmp new_rows.items }
+        requires room { vec_len new_rows ≤ self.old.spare }
+        ensures rows { self.new.rows ≡ with_rows K.cmp self.old.rows new_rows.items }
+        ensures room { self.old.spare ≤ self.new.spare + vec_len new_rows }
+    {
+        let alloc = *self.rows.allocator();
+        let rows = mem::replace(&mut self.rows, Vec::new(alloc));
+        self.rows = merged(rows, new_rows);
     }
 
     /// Takes the key's row out, and answers its value.

@@ -4,6 +4,8 @@
 mod keyed;
 mod memory;
 mod merge;
+mod row_list;
 
-pub use keyed::Keyed;
+pub use keyed::{Keyed, rise};
 pub use memory::NoMemory;
+pub use row_list::RowList;

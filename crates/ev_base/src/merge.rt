@@ -16,6 +16,7 @@ pub fn merged<K: Ord + Drop, V: Drop>(
     requires new_rise { RowsRise K.cmp new_rows.items }
     requires room { vec_len rows + vec_len new_rows ≤ vec_capacity rows }
     ensures rows { result.items ≡ with_rows K.cmp rows.items new_rows.items }
+    ensures len { vec_len result ≤ vec_len rows + vec_len new_rows }
     ensures capacity { vec_capacity result ≡ vec_capacity rows }
 {
     let mut left = rows.len();

@@ -10,7 +10,7 @@ loop-key-preserved-in-Less g c =
     let row = c.in-Some.field-0.now in
     let last = last_read c.loop-key.new_rows.items row (rw c.deref.ensures.value at c.in-Some.ensures.item.3) in
     let step = step_old g.met.K.Ord.total c.loop-key.invariant.merging last.front row last.is _ c.loop-key.ring.ok.0 some (λ d. sym (c.in-Less.ensures.last d some)) in
-    record { merging = rw c.rotate_right.ensures.items step; left_within = omega arith; room = omega arith; same_block = omega arith }
+    record { merging = rw c.rotate_right.ensures.items step; left_within = omega arith; no_more = omega arith; same_block = omega arith }
 
 -- it takes the new value on the way
 merging_both : (g : _) (c : After-push_front_reserved g) → IsMerging g.K.Ord.cmp c.args.rows.items c.args.new_rows.items c.push_front_reserved.new.self.items (c.loop-key.left - 1) c.pop.new.self.items
@@ -29,7 +29,7 @@ pub loop-key-preserved-in-Equal : goal.loop-key-preserved-in-Equal
 loop-key-preserved-in-Equal g c =
     let rows = rw c.unwrap-key.ensures at c.pop_back.ensures.cases in
     let new_rows = rw c.unwrap-value.ensures at c.pop.ensures.cases in
-    record { merging = merging_both g c; left_within = omega arith; room = omega arith; same_block = omega arith }
+    record { merging = merging_both g c; left_within = omega arith; no_more = omega arith; same_block = omega arith }
 
 -- the new row goes to the front
 merging_new : (g : _) (c : After-push_front_reserved-in-Greater g) → IsMerging g.K.Ord.cmp c.args.rows.items c.args.new_rows.items c.push_front_reserved-in-Greater.new.self.items c.loop-key.left c.pop-in-Greater.new.self.items
@@ -45,4 +45,4 @@ merging_new g c =
 pub loop-key-preserved : goal.loop-key-preserved
 loop-key-preserved g c =
     let new_rows = rw c.unwrap.ensures at c.pop-in-Greater.ensures.cases in
-    record { merging = merging_new g c; left_within = omega arith; room = omega arith; same_block = omega arith }
+    record { merging = merging_new g c; left_within = omega arith; no_more = omega arith; same_block = omega arith }

@@ -7,7 +7,7 @@ abbrev pub invariant-loop-key : goal.invariant-loop-key
 invariant-loop-key g l = record {
   merging : IsMerging g.K.Ord.cmp l.fn.rows.items l.fn.new_rows.items l.ring.items l.left l.new_rows.items;
   left_within : l.left ≤ deque_len l.ring;
-  room : deque_len l.ring + vec_len l.new_rows ≤ deque_capacity l.ring;
+  no_more : deque_len l.ring + vec_len l.new_rows ≤ vec_len l.fn.rows + vec_len l.fn.new_rows;
   same_block : deque_capacity l.ring ≡ vec_capacity l.fn.rows;
 }
 
