@@ -1,5 +1,7 @@
+pub mod ChangeLemmas
 pub mod KeepLemmas
 pub mod MergeLemmas
 pub mod RangeLemmas
 pub mod RiseLemmas
+pub mod RowLemmas
 pub mod PlaceLemmas
