@@ -4,4 +4,5 @@ pub mod MergeLemmas
 pub mod RangeLemmas
 pub mod RiseLemmas
 pub mod RowLemmas
+pub mod SiftLemmas
 pub mod PlaceLemmas
