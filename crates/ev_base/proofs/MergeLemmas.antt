@@ -215,9 +215,9 @@ module _ {K V : Type 0} {cmp : K → K → Ordering} (total : IsTotalOrder cmp) 
   waiting_below : (0 < left → (d : K × V) → cmp row.0 (get_or ring (len - 1) d).0 ≡ Greater) → AreBelow cmp merging.waiting row.0
   waiting_below greater = elim (cases_lt 0 left) [
     | inl some ↦
-      let w = subst (LastOf cmp merging.done merging.waiting ring left) (sym len_is) (last_of merging some) in
-      let less = below-above total row.0 w.last.0 (rw w.read at (greater some w.last)) in
-      subst (λ l. AreBelow cmp l row.0) (sym w.is) (AreBelow-push total w.rest w.last row.0 (AreBelow-further total w.rest w.last.0 row.0 w.below less) less)
+        let w = subst (LastOf cmp merging.done merging.waiting ring left) (sym len_is) (last_of merging some) in
+        let less = below-above total row.0 w.last.0 (rw w.read at (greater some w.last)) in
+        subst (λ l. AreBelow cmp l row.0) (sym w.is) (AreBelow-push total w.rest w.last row.0 (AreBelow-further total w.rest w.last.0 row.0 w.below less) less)
     | inr none ↦ subst (λ l. AreBelow cmp l row.0) (sym (empty_of merging.waiting (omega (arith, merging.long)))) tt
   ]
 

@@ -132,9 +132,9 @@ module _ {K V : Type 0} {cmp : K → K → Ordering} (total : IsTotalOrder cmp) 
   gap_from_parts [] (suc at) within less greater = absurd (omega arith)
   gap_from_parts (row ∷ rows) zero within less greater = below-above total row.0 key (greater 0 row (omega arith) (omega arith))
   gap_from_parts (row ∷ rows) (suc at) within less greater = (
-      above-below total row.0 key (less 0 row (omega arith) (omega arith)),
-      gap_from_parts rows at (omega arith) (λ k d low high. less (suc k) d (omega arith) (omega arith)) (λ k d low high. greater (suc k) d (omega arith) (omega arith)),
-    )
+    above-below total row.0 key (less 0 row (omega arith) (omega arith)),
+    gap_from_parts rows at (omega arith) (λ k d low high. less (suc k) d (omega arith) (omega arith)) (λ k d low high. greater (suc k) d (omega arith) (omega arith)),
+  )
 
   -- rows that rise are sorted as a binary search asks
   sorted_from_rise : (rows : List (K × V)) → RowsRise cmp rows → IsSortedBy (λ (a b : K × V). is_lt (cmp a.0 b.0)) rows

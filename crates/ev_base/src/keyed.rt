@@ -231,3 +231,6 @@ impl<K: Ord + Drop, V: Drop> Keyed<K, V> {
         self.rows.retain(test);
     }
 }
+
+#[cfg(test)]
+mod tests;

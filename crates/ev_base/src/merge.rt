@@ -8,10 +8,7 @@ use std::collections::VecDeque;
 /// The rows with the new ones put among them, in one pass from the greatest key down.
 ///
 /// All stay in the block of `rows`, as a ring: those that are passed go from its back to its front.
-pub fn merged<K: Ord + Drop, V: Drop>(
-    rows: Vec<(K, V)>,
-    mut new_rows: Vec<(K, V)>,
-) -> Vec<(K, V)>
+pub fn merged<K: Ord + Drop, V: Drop>(rows: Vec<(K, V)>, mut new_rows: Vec<(K, V)>) -> Vec<(K, V)>
     requires rise { RowsRise K.cmp rows.items }
     requires new_rise { RowsRise K.cmp new_rows.items }
     requires room { vec_len rows + vec_len new_rows ≤ vec_capacity rows }

@@ -22,7 +22,7 @@ merging_both g c =
     let same = read_last c.loop-key.new_rows.items c.pop.new.self.items row c.in-Some.field-0.now front_is read.1 in
     let last_is = rw c.unwrap-key.ensures at c.pop_back.ensures.lookup in
     let step = step_both g.met.K.Ord.total c.loop-key.invariant.merging c.pop.new.self.items row front_is _ c.loop-key.ring.ok.0 some
-        (λ d. rw (← same) (sym (c.in-Equal.ensures.last d some))) c.unwrap-key.result last_is in
+    (λ d. rw (← same) (sym (c.in-Equal.ensures.last d some))) c.unwrap-key.result last_is in
     rw (c.push_front_reserved.ensures.items, c.pop_back.ensures.rest) step
 
 pub loop-key-preserved-in-Equal : goal.loop-key-preserved-in-Equal
@@ -39,7 +39,7 @@ merging_new g c =
     let read = rw c.deref.ensures.value at c.in-Some.ensures.item.3 in
     let same = read_last c.loop-key.new_rows.items c.pop-in-Greater.new.self.items row c.in-Some.field-0.now front_is read.1 in
     let step = step_new g.met.K.Ord.total c.loop-key.invariant.merging c.pop-in-Greater.new.self.items row front_is _ c.loop-key.ring.ok.0
-        (λ some d. rw (← same) (sym (c.in-Greater.ensures.last d some))) in
+    (λ some d. rw (← same) (sym (c.in-Greater.ensures.last d some))) in
     rw c.push_front_reserved-in-Greater.ensures.items step
 
 pub loop-key-preserved : goal.loop-key-preserved

@@ -18,7 +18,7 @@ returns-clause-outside g c =
     let ends = end_at.partitioned (λ row. is_le (cmp row.0 high)) (always_returns_same _ _ _ (λ a r f' called. search rules)) (rw c.deref-2.ensures.value (partitioned_up_to total high rows c.self.invariant)) in
     rw (← rows_is, c.max.ensures)
     (filter_outside total low high rows c.partition_point-start.result c.partition_point-end.result
-      (rw c.deref.ensures.value at start_at.bound)
-      (rw c.deref-2.ensures.value at end_at.bound)
-      (rw c.deref.ensures.value at starts)
-      (rw c.deref-2.ensures.value at ends))
+    (rw c.deref.ensures.value at start_at.bound)
+    (rw c.deref-2.ensures.value at end_at.bound)
+    (rw c.deref.ensures.value at starts)
+    (rw c.deref-2.ensures.value at ends))

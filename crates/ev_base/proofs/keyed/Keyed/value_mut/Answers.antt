@@ -33,6 +33,7 @@ returns g c =
     let read = c.index_mut-row.result.now in
     let is = c.index_mut-row.ensures.value in
     let value = sym (lookup-found compare rows c.args.at read is found) in
-    let written = λ (w : g.row.V.Denot). sym (set_value-found compare rows c.args.at read w is found) ∙ ap (λ r. set_value (is_at compare) r w) rows_is in
-    ((refl, λ w i. record { rows = (written w) i; spare = spare_is i }),
-      record { writes_back = tt; value = rw (← rows_is) value })
+    let written = λ (w : g.row.V.Denot). sym (set_value-found compare rows c.args.at read w is found) ∙ ap (λ r. set_value (is_at compare) r w) rows_is in (
+      (refl, λ w i. record { rows = (written w) i; spare = spare_is i }),
+      record { writes_back = tt; value = rw (← rows_is) value },
+    )
