@@ -1,10 +1,8 @@
 -- What changed between two lists that rise: the rows that were gained, lost and kept, and events made of them.
-use Rattle.std.proofs.Common.{◌≡◌, Bool, true, false, List, [], ◌∷◌, ◌++◌, map, flat_map, Ordering, Option, None, Some, is_none, option_map, option_and_then, sym, ap, ap₂, refl, ◌∙◌, append_assoc, append-nil}
-use Rattle.std.specs.List.{cons_option, filter_map}
-use Rattle.std.specs.BTreeMap.{is_at}
+use Rattle.std.proofs.Common.{◌≡◌, List, [], flat_map, Ordering, Option, None, Some, option_map, option_and_then, sym, ap, refl, ◌∙◌}
 use Rattle.std.proofs.lemmas.Option.{same_Some}
 use Rattle.ev_base.specs.KeyOrder.{KeyOrder}
-use Rattle.ev_base.specs.Rows.{RowsRise, row_at, sift, only_if, fresh, both_of, made_of, one_row, AgreeBut, gained, lost, kept, keyed_events, events_at}
+use Rattle.ev_base.specs.Rows.{RowsRise, row_at, fresh, both_of, made_of, one_row, AgreeBut, gained, kept, keyed_events, events_at}
 use Rattle.ev_base.proofs.RiseLemmas.{rise-nil, rise-sift}
 use Rattle.ev_base.proofs.RowLemmas.{row_at-sift, same_rows, only_at, flat_map_at, flat_map_quiet}
 

@@ -1,8 +1,8 @@
 -- What is left of a list by a closure that answers what a test does.
-use Rattle.std.proofs.Common.{◌≡◌, ℕ, suc, Bool, true, false, cond, List, [], ◌∷◌, length, filter, ap, refl, sym, ◌∙◌, arith}
+use Rattle.std.proofs.Common.{◌≡◌, Bool, true, false, cond, List, [], ◌∷◌, length, filter, ap, refl, ◌∙◌, arith}
 use denote.Param.Members.{Mut}
 use denote.Ref.{Bor}
-use Rattle.std.specs.Fn.{Called, CalledAt, ComputesKey}
+use Rattle.std.specs.Fn.{CalledAt, ComputesKey}
 use Rattle.std.specs.List.{items_where_true}
 use Rattle.std.specs.List.Retain.{IsFiltered, ReturnsInTurn}
 

@@ -1,13 +1,12 @@
 -- New rows put among rows that rise, from the greatest key down.
 use Rattle.std.proofs.Math.Seq.{take-append_seam, drop-append_seam}
-use Rattle.std.proofs.Common.{◌≡◌, ℕ, suc, length-append, subst, inl, inr, ◌≤◌, ◌<◌, ◌-◌, ◌+◌, List, [], ◌∷◌, ◌++◌, length, get_or, take, drop, Less, Equal, Greater, Ordering, sym, ap, refl, ◌∙◌, append_assoc, arith}
+use Rattle.std.proofs.Common.{◌≡◌, ℕ, length-append, subst, inl, inr, ◌≤◌, ◌<◌, ◌-◌, List, [], ◌∷◌, ◌++◌, length, get_or, take, drop, Less, Equal, Greater, Ordering, sym, ap, refl, ◌∙◌, append_assoc, arith}
 use Rattle.std.specs.Cmp.{IsTotalOrder}
-use Rattle.std.specs.Ordering.{match_ordering, ordering_reverse}
-use Rattle.std.specs.List.{AllByRecursion}
+use Rattle.std.specs.Ordering.{match_ordering}
 use Rattle.std.specs.BTreeMap.{insert_entry}
 use Rattle.std.proofs.lemmas.Bool.{cases_lt}
 use Rattle.std.proofs.lemmas.Cmp.{tied_back, alike_right}
-use Rattle.ev_base.specs.Rows.{RowsRise, keys_of, with_rows}
+use Rattle.ev_base.specs.Rows.{RowsRise, with_rows}
 use Rattle.ev_base.proofs.RiseLemmas.{AreBelow, rise_front, above-below, below-above, rise-insert_entry}
 
 module _ {K V : Type 0} {cmp : K → K → Ordering} (total : IsTotalOrder cmp) where

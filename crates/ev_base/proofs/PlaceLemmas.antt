@@ -1,9 +1,8 @@
 -- What a binary search finds among rows that rise, and what an edit at that place is.
-use Rattle.std.proofs.Common.{◌≡◌, ℕ, zero, suc, ◌+◌, ◌<◌, ◌≤◌, Bool, true, false, cond, List, [], ◌∷◌, length, get_or, set, map, insert, remove, Less, Equal, Greater, Ordering, Option, None, Some, Result, Ok, Err, is_lt, IsTrue, ◌↔◌, true≢false, sym, ap, refl, ◌∙◌, arith}
+use Rattle.std.proofs.Common.{◌≡◌, ℕ, zero, suc, ◌+◌, ◌<◌, ◌≤◌, Bool, true, false, List, [], ◌∷◌, length, get_or, set, insert, remove, Less, Equal, Greater, Ordering, None, Some, Result, Ok, Err, is_lt, IsTrue, ◌↔◌, true≢false, sym, ap, refl, ◌∙◌, arith}
 use Rattle.std.specs.Cmp.{IsTotalOrder}
-use Rattle.std.specs.Ordering.{match_ordering, ordering_index, is_eq}
 use Rattle.std.specs.List.{AllWithin, AllAdjacentBelow, IsAllAdjacentAnswer}
-use Rattle.std.specs.List.Sorted.{IsSearchInRange, IsBinarySearchResult, IsNonDecreasingBy, IsSortedBy}
+use Rattle.std.specs.List.Sorted.{IsSearchInRange, IsBinarySearchResult, IsSortedBy}
 use Rattle.std.specs.Map.{lookup, remove_entry, set_value}
 use Rattle.std.specs.BTreeMap.{insert_entry, is_at}
 use Rattle.std.proofs.lemmas.Cmp.{tied_back, alike_right}
@@ -11,7 +10,7 @@ use Rattle.std.proofs.lemmas.List.Sorted.{searchable_from_sorted}
 use Rattle.std.proofs.lemmas.Map.Keys.{Less-from_sorted, sorted_from_all_adjacent}
 use Rattle.ev_base.specs.Rows.{RowsRise, keys_of, row_at}
 use Rattle.ev_base.specs.Place.{IsFoundAt, IsGapAt, IsPlace}
-use Rattle.ev_base.proofs.RiseLemmas.{IsBelow, IsBelow-equal, IsBelow-further, rise-nil, rise_head, rise_tail, below-above, above-below}
+use Rattle.ev_base.proofs.RiseLemmas.{IsBelow, IsBelow-further, rise-nil, rise_head, rise_tail, below-above, above-below}
 
 Less-from_is_lt : (o : Ordering) → is_lt o ≡ true → o ≡ Less
 Less-from_is_lt Less less = refl

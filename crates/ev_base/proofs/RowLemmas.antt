@@ -1,17 +1,16 @@
 -- Rows that rise, by the row of each key: what an edit leaves, and that lists with the same rows are equal.
-use Rattle.std.proofs.Common.{◌≡◌, Bool, true, false, cond, ◌&&◌, if◌then◌else◌, List, [], ◌∷◌, ◌++◌, filter, map, flat_map, Less, Equal, Greater, Ordering, Option, None, Some, IsSome, is_some, option_map, option_and_then, sym, ap, subst, refl, ◌∙◌, true≢false, append-nil}
-use Rattle.std.specs.Cmp.{IsTotalOrder}
-use Rattle.std.specs.Ordering.{match_ordering, ordering_reverse, is_eq, eq_by_cmp}
-use Rattle.std.specs.List.{AllByRecursion, cons_option}
-use Rattle.std.specs.Map.{lookup, remove_entry, set_value}
+use Rattle.std.proofs.Common.{◌≡◌, Bool, true, false, cond, if◌then◌else◌, List, [], ◌∷◌, ◌++◌, filter, flat_map, Less, Equal, Greater, Ordering, Option, None, Some, IsSome, is_some, option_map, option_and_then, sym, ap, refl, ◌∙◌, true≢false, append-nil}
+use Rattle.std.specs.Ordering.{match_ordering, is_eq}
+use Rattle.std.specs.List.{cons_option}
+use Rattle.std.specs.Map.{remove_entry, set_value}
 use Rattle.std.specs.BTreeMap.{insert_entry, is_at}
 use Rattle.std.proofs.lemmas.Cmp.{tied_itself, eq_by_cmp_equiv}
 use Rattle.std.proofs.lemmas.Map.{lookup-remove_entry, lookup-set_value}
 use Rattle.std.proofs.lemmas.Map.Keys.{IsDistinct-from_sorted}
 use Rattle.std.proofs.lemmas.Option.{same_Some}
 use Rattle.ev_base.specs.KeyOrder.{KeyOrder}
-use Rattle.ev_base.specs.Rows.{RowsRise, keys_of, row_at, sift, only_if, made_of, one_row, AgreeBut}
-use Rattle.ev_base.proofs.RiseLemmas.{IsBelow, IsBelow-further, IsBelow-sift, rise-nil, rise-cons, rise_head, rise_tail, rise-sift, above-below, below-above}
+use Rattle.ev_base.specs.Rows.{RowsRise, keys_of, row_at, with_rows, sift, only_if, made_of, one_row, AgreeBut}
+use Rattle.ev_base.proofs.RiseLemmas.{IsBelow-further, IsBelow-sift, rise-nil, rise-cons, rise_head, rise_tail, below-above}
 use Rattle.ev_base.proofs.PlaceLemmas.{lookup-below}
 
 module _ {K : Type 0} {cmp : K → K → Ordering} (order : KeyOrder cmp) where
@@ -56,6 +55,20 @@ module _ {K V : Type 0} {cmp : K → K → Ordering} (order : KeyOrder cmp) wher
       go Greater is further =
           apart (is_at (cmp q) key) (is_at (cmp q) row.0) (Some value) (Some row.1) (row_at cmp rows q) (row_at cmp (insert_entry cmp rows key value) q)
           (λ at. ap (λ k. is_eq (cmp k row.0)) (at_same order q key at) ∙ ap is_eq is) further
+
+  -- the row of a key after new rows were put, one after another
+  pub row_at-with_rows : (rows new : List (K × V)) (q : K) → RowsRise cmp new
+      → row_at cmp (with_rows cmp rows new) q ≡ (if is_some (row_at cmp new q) then row_at cmp new q else row_at cmp rows q)
+  row_at-with_rows rows [] q rise = refl
+  row_at-with_rows rows (row ∷ new) q rise = row_at-with_rows (insert_entry cmp rows row.0 row.1) new q (rise_tail cmp row new rise) ∙ go (is_at (cmp q) row.0) refl
+    where
+      go : (b : Bool) → is_at (cmp q) row.0 ≡ b
+          → (if is_some (row_at cmp new q) then row_at cmp new q else row_at cmp (insert_entry cmp rows row.0 row.1) q)
+          ≡ (if is_some (row_at cmp (row ∷ new) q) then row_at cmp (row ∷ new) q else row_at cmp rows q)
+      go true at =
+          let none = ap (row_at cmp new) (at_same order q row.0 at) ∙ lookup-below order.total row.0 new (rise_head cmp row new rise) in
+          rw (none, row_at-insert_entry rows row.0 row.1 q, at) refl
+      go false off = rw (row_at-insert_entry rows row.0 row.1 q, off) refl
 
   -- the row of a key after a drop
   pub row_at-remove_entry : (rows : List (K × V)) (key q : K) → RowsRise cmp rows

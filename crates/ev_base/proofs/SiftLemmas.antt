@@ -1,5 +1,5 @@
 -- Lists made of the rows of one table, each row of its own key.
-use Rattle.std.proofs.Common.{◌≡◌, List, [], ◌∷◌, ◌++◌, map, flat_map, Ordering, Option, None, Some, option_map, option_and_then, sym, ap, refl, ◌∙◌, append_assoc}
+use Rattle.std.proofs.Common.{◌≡◌, List, [], ◌∷◌, ◌++◌, map, flat_map, Ordering, Option, None, Some, option_map, option_and_then, sym, ap, refl, ◌∙◌}
 use Rattle.std.specs.List.{cons_option}
 use Rattle.ev_base.specs.KeyOrder.{KeyOrder}
 use Rattle.ev_base.specs.Rows.{RowsRise, row_at, sift, fresh, both_of, made_of, gained, kept}

@@ -1,4 +1,4 @@
-ghost use Rattle.std.specs.Prelude.{◌≡◌, Bool, ◌-◌, ◌≤◌, ◌+◌, ◌↔◌, [], length, filter, if◌then◌else◌, is_some, IsTrue, IsNone, OnOk, option_copied, vec_len, vec_capacity};
+ghost use Rattle.std.specs.Prelude.{◌≡◌, Bool, ◌-◌, ◌≤◌, ◌+◌, ◌↔◌, [], length, filter, if◌then◌else◌, is_some, IsTrue, IsNone, IsOk, OnOk, option_copied, vec_len, vec_capacity};
 ghost use Rattle.std.specs.Option.{option_copied_mut};
 ghost use Rattle.std.specs.Borrow.{sem};
 ghost use Rattle.std.specs.Fn.{CalledAt, ComputesKey};
@@ -17,8 +17,8 @@ use std::alloc::{AllocError, Global};
 use std::marker::Model;
 use std::mem;
 
-/// Whether the rows rise by key, so that `Keyed::from_vec` takes them.
-pub fn rise<K: Ord, V>(rows: &[(K, V)]) -> bool
+/// Whether the rows rise by key, as `Keyed::from_vec` and `merge` ask.
+pub fn rows_rise<K: Ord, V>(rows: &[(K, V)]) -> bool
     ensures { IsTrue result ↔ RowsRise K.cmp rows.now }
 {
     rows.is_sorted_by(|a, b| a.0.cmp(&b.0).is_lt())
@@ -26,7 +26,7 @@ pub fn rise<K: Ord, V>(rows: &[(K, V)]) -> bool
 
 /// Rows of a key and a value that rise by key, in one block of memory.
 ///
-/// `reserve` makes room for more rows; no other call takes memory.
+/// `reserve` makes room for more rows. Beside it only `clone` takes memory.
 #[derive(Debug, Drop)]
 pub struct Keyed<K: Ord, V> {
     rows: Vec<(K, V)>,
@@ -38,7 +38,8 @@ impl<K: Ord, V> Model for Keyed<K, V> {
 
     ghost Value = { Table K V };
 
-    ghost view = { λ it. record { rows = it.rows.items; spare = vec_capacity it.rows - vec_len it.rows } };
+    ghost view = { λ it.
+        record { rows = it.rows.items; spare = vec_capacity it.rows - vec_len it.rows } };
 
     ghost invariant = { λ it. RowsRise K.cmp it.rows.items };
 }
@@ -92,6 +93,7 @@ impl<K: Ord, V> Keyed<K, V> {
     /// Makes room for `more` rows that are not there yet.
     pub fn reserve(&mut self, more: usize) -> Result<(), NoMemory>
         ensures room { OnOk result (more ≤ self.new.spare) }
+        ensures succeeds { more ≤ self.old.spare → IsOk result }
         ensures rows { self.new.rows ≡ self.old.rows }
         ensures spare { self.old.spare ≤ self.new.spare }
     {
@@ -122,8 +124,8 @@ impl<K: Ord, V> Keyed<K, V> {
         ensures* writes_back { sem 𝓛 (lends_value K.row V.row K.Ord self.entry key.now result) }
         ensures value { Some result.now ≡ row_at K.cmp self.old.rows key.now }
     {
-        let row = &mut self.rows[at];
-        &mut row.1
+        let found = &mut self.rows[at];
+        &mut found.1
     }
 
     // Where the key's row stands, or where it would.
@@ -153,12 +155,13 @@ impl<K: Ord + Clone, V: Clone> Clone for Keyed<K, V> {
     ghost use Rattle.std.specs.Prelude.{◌≡◌};
     ghost use Rattle.ev_base.specs.Clones.{ClonesAreSame};
 
-    ghost is_clone = { λ s t. ClonesAreSame K.is_clone → ClonesAreSame V.is_clone → t.rows ≡ s.rows };
+    ghost is_clone = { λ s t.
+        ClonesAreSame K.is_clone → ClonesAreSame V.is_clone → t.rows ≡ s.rows };
 
-    // No law says that the clones of keys stand in the keys' order, so this fails where they don't rise.
+    // No law of `Clone` says that copies of keys stand in the keys' order. This fails where they don't.
     fn clone(&self) -> Result<Self, AllocError> {
         let rows = self.rows.clone()?;
-        if !rise(&rows) {
+        if !rows_rise(&rows) {
             return Err(AllocError);
         }
         Ok(Keyed { rows })
@@ -224,7 +227,8 @@ impl<K: Ord + Drop, V: Drop> Keyed<K, V> {
     /// Keeps the rows that pass the test.
     pub fn keep<F: FnMut(&(K, V)) -> bool>(&mut self, test: F)
         requires { F.IsAlwaysCallable test }
-        ensures rows { (p : K × V → Bool) → ComputesKey F.FnMut p test → self.new.rows ≡ filter p self.old.rows }
+        ensures rows { (p : K × V → Bool) → ComputesKey F.FnMut p test
+            → self.new.rows ≡ filter p self.old.rows }
         ensures calls { IsFiltered (CalledAt F.FnMut) test self.old.rows self.new.rows }
         ensures room { self.old.spare ≤ self.new.spare }
     {

@@ -6,6 +6,6 @@ mod memory;
 mod merge;
 mod row_list;
 
-pub use keyed::{Keyed, rise};
+pub use keyed::{Keyed, rows_rise};
 pub use memory::NoMemory;
 pub use row_list::RowList;

@@ -5,7 +5,9 @@ use crate::keyed::Keyed;
 use std::alloc::AllocError;
 use std::marker::Model;
 
-/// Rows of a key and a value that rise by key, and nothing else: two lists of the same rows are equal.
+/// Rows of a key and a value that rise by key, as a list and nothing else.
+///
+/// Where a `Keyed` also has room, two of these with the same rows are one value in a contract.
 #[derive(Debug, Drop)]
 pub struct RowList<K: Ord, V> {
     keyed: Keyed<K, V>,
@@ -100,7 +102,8 @@ impl<K: Ord, V: PartialEq> PartialEq for RowList<K, V> {
 
     ghost eq = { pointwise (λ p q. K.eq p.0 q.0 && V.eq p.1 q.1) };
 
-    ghost laws = { lists_per (and_per (on_per (λ row. row.0) K.PartialEq.laws) (on_per (λ row. row.1) V.laws)) };
+    ghost laws = { lists_per
+        (and_per (on_per (λ row. row.0) K.PartialEq.laws) (on_per (λ row. row.1) V.laws)) };
 
     fn eq(&self, other: &Self) -> bool {
         self.rows() == other.rows()
@@ -110,7 +113,7 @@ impl<K: Ord, V: PartialEq> PartialEq for RowList<K, V> {
 #[cfg(test)]
 mod tests {
     use super::*;
-    use crate::keyed::rise;
+    use crate::keyed::rows_rise;
     use std::test::Fail;
 
     fn copied<T: Clone>(value: &T) -> Result<T, AllocError> {
@@ -124,7 +127,7 @@ mod tests {
     #[test]
     fn lists_are_equal_where_their_rows_are(rt: HostRuntime) -> Result<(), Fail> {
         let rows = vec![in rt.alloc(); (1u32, 'a'), (2, 'b')]?;
-        assert!(rt; rise(&rows));
+        assert!(rt; rows_rise(&rows));
         let list = RowList::from_vec(rows);
         assert_eq!(rt; list.len(), 2);
         assert!(rt; !list.is_empty());

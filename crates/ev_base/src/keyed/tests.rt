@@ -1,4 +1,4 @@
-use super::{Keyed, rise};
+use super::{Keyed, rows_rise};
 use std::alloc::AllocError;
 use std::mem::size_of;
 use std::test::Fail;
@@ -47,7 +47,7 @@ fn the_rows_between_two_keys_go(rt: HostRuntime) -> Result<(), Fail> {
         ((2, u32::MAX), 'c'),
         ((3, 0), 'd'),
     ]?;
-    assert!(rt; rise(&rows));
+    assert!(rt; rows_rise(&rows));
     let mut table = Keyed::from_vec(rows);
     assert_eq!(rt; table.drop_between(&(2, u32::MAX), &(2, 0)), 0);
     assert_eq!(rt; table.len(), 4);
@@ -62,8 +62,8 @@ fn the_rows_between_two_keys_go(rt: HostRuntime) -> Result<(), Fail> {
 fn new_rows_go_among_the_old_ones(rt: HostRuntime) -> Result<(), Fail> {
     let old = vec![in rt.alloc(); (1u32, "one"), (4, "four"), (6, "six")]?;
     let new = vec![in rt.alloc(); (0u32, "nought"), (4, "FOUR"), (9, "nine")]?;
-    assert!(rt; rise(&old));
-    assert!(rt; rise(&new));
+    assert!(rt; rows_rise(&old));
+    assert!(rt; rows_rise(&new));
     let mut table = Keyed::from_vec(old);
     table.reserve(3)?;
     table.merge(new);
@@ -75,7 +75,7 @@ fn new_rows_go_among_the_old_ones(rt: HostRuntime) -> Result<(), Fail> {
         (9, "nine"),
     ];
     assert_eq!(rt; table.rows(), all.as_slice());
-    assert!(rt; !rise(&[(2u32, ()), (2, ())]));
+    assert!(rt; !rows_rise(&[(2u32, ()), (2, ())]));
     Ok(())
 }
 

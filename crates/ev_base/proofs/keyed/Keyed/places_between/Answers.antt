@@ -1,4 +1,4 @@
-use Rattle.std.proofs.Common.{◌≡◌, is_lt, is_le, ap, rules, arith}
+use Rattle.std.proofs.Common.{◌≡◌, is_lt, is_le, ap, rules}
 use Rattle.std.proofs.lemmas.Fn.{always_returns_same}
 use Rattle.ev_base.proofs.RangeLemmas.{partitioned_below, partitioned_up_to, filter_outside}
 use Rattle.ev_base.proofs.keyed.Keyed.places_between.Goals as goal

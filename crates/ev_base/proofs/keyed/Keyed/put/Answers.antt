@@ -1,6 +1,4 @@
-use Rattle.std.proofs.Common.{◌≡◌, set, ap, sym, is_some, ◌∙◌, arith}
-use Rattle.std.specs.BTreeMap.{insert_entry}
-use Rattle.ev_base.specs.Rows.{RowsRise}
+use Rattle.std.proofs.Common.{◌≡◌, ap, sym, is_some, arith}
 use Rattle.ev_base.specs.Place.{IsFoundAt, IsGapAt}
 use Rattle.ev_base.proofs.RiseLemmas.{rise-insert_entry}
 use Rattle.ev_base.proofs.PlaceLemmas.{lookup-found, lookup-gap, insert_entry-found, insert_entry-gap}

@@ -7,8 +7,8 @@ use Rattle.ev_base.proofs.RiseLemmas.{rise-set_value}
 use Rattle.ev_base.proofs.PlaceLemmas.{found_within, lookup-found, set_value-found}
 use Rattle.ev_base.proofs.keyed.Keyed.value_mut.Goals as goal
 
-pub index_mut-row-requires : goal.index_mut-row-requires
-index_mut-row-requires g c =
+pub index_mut-found-requires : goal.index_mut-found-requires
+index_mut-found-requires g c =
     let rows = c.self.inside.rows in
     let rows_is : rows.items ≡ c.args.self.now.rows = ap (λ t. t.rows) c.self.view_is in
     let found : IsFoundAt (g.K.Ord.cmp c.args.key.now) rows.items c.args.at = rw rows_is c.requires in
@@ -21,7 +21,7 @@ invariant_of-self-lent g c = λ w.
     let rows = c.self.inside.rows.items in
     let rows_is : rows ≡ c.args.self.now.rows = ap (λ t. t.rows) c.self.view_is in
     let found : IsFoundAt (cmp c.args.key.now) rows c.args.at = rw rows_is c.requires in
-    subst (RowsRise cmp) (set_value-found _ _ _ _ w c.index_mut-row.ensures.value found) (rise-set_value cmp _ w rows c.self.invariant)
+    subst (RowsRise cmp) (set_value-found _ _ _ _ w c.index_mut-found.ensures.value found) (rise-set_value cmp _ w rows c.self.invariant)
 
 pub returns : goal.returns
 returns g c =
@@ -30,8 +30,8 @@ returns g c =
     let rows_is : rows ≡ c.args.self.now.rows = ap (λ t. t.rows) c.self.view_is in
     let spare_is = ap (λ t. t.spare) c.self.view_is in
     let found : IsFoundAt compare rows c.args.at = rw rows_is c.requires in
-    let read = c.index_mut-row.result.now in
-    let is = c.index_mut-row.ensures.value in
+    let read = c.index_mut-found.result.now in
+    let is = c.index_mut-found.ensures.value in
     let value = sym (lookup-found compare rows c.args.at read is found) in
     let written = λ (w : g.row.V.Denot). sym (set_value-found compare rows c.args.at read w is found) ∙ ap (λ r. set_value (is_at compare) r w) rows_is in (
       (refl, λ w i. record { rows = (written w) i; spare = spare_is i }),

@@ -1,7 +1,7 @@
 use Rattle.std.proofs.Common.{is_lt, rules}
 use Rattle.std.proofs.lemmas.Fn.{always_returns_same}
 use Rattle.ev_base.proofs.PlaceLemmas.{rise_from_answer}
-use Rattle.ev_base.proofs.keyed.rise.Goals as goal
+use Rattle.ev_base.proofs.keyed.rows_rise.Goals as goal
 
 -- the closure compares the keys of two rows
 pub returns : goal.returns
