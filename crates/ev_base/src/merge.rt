@@ -7,7 +7,8 @@ use std::collections::VecDeque;
 
 /// The rows with the new ones put among them, in one pass from the greatest key down.
 ///
-/// All stay in the block of `rows`, as a ring: those that are passed go from its back to its front.
+/// The block of `rows` is a ring meanwhile. At its back are the rows that are left to pass, and each goes to its
+/// front, where the merged rows gather.
 pub fn merged<K: Ord + Drop, V: Drop>(rows: Vec<(K, V)>, mut new_rows: Vec<(K, V)>) -> Vec<(K, V)>
     requires rise { RowsRise K.cmp rows.items }
     requires new_rise { RowsRise K.cmp new_rows.items }
@@ -25,9 +26,9 @@ pub fn merged<K: Ord + Drop, V: Drop>(rows: Vec<(K, V)>, mut new_rows: Vec<(K, V
                 left -= 1;
             }
             Ordering::Equal => {
-                let (key, _) = ring.pop_back().unwrap();
+                let (old_key, _) = ring.pop_back().unwrap();
                 let (_, value) = new_rows.pop().unwrap();
-                ring.push_front_reserved((key, value));
+                ring.push_front_reserved((old_key, value));
                 left -= 1;
             }
             Ordering::Greater => ring.push_front_reserved(new_rows.pop().unwrap()),

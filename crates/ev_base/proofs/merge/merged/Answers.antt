@@ -20,14 +20,14 @@ merging_both g c =
     let front_is = rw c.unwrap-value.ensures at c.pop.ensures.items in
     let read = rw c.deref.ensures.value at c.in-Some.ensures.item.3 in
     let same = read_last c.loop-key.new_rows.items c.pop.new.self.items row c.in-Some.field-0.now front_is read.1 in
-    let last_is = rw c.unwrap-key.ensures at c.pop_back.ensures.lookup in
+    let last_is = rw c.unwrap-old_key.ensures at c.pop_back.ensures.lookup in
     let step = step_both g.met.K.Ord.total c.loop-key.invariant.merging c.pop.new.self.items row front_is _ c.loop-key.ring.ok.0 some
-    (λ d. rw (← same) (sym (c.in-Equal.ensures.last d some))) c.unwrap-key.result last_is in
+    (λ d. rw (← same) (sym (c.in-Equal.ensures.last d some))) c.unwrap-old_key.result last_is in
     rw (c.push_front_reserved.ensures.items, c.pop_back.ensures.rest) step
 
 pub loop-key-preserved-in-Equal : goal.loop-key-preserved-in-Equal
 loop-key-preserved-in-Equal g c =
-    let rows = rw c.unwrap-key.ensures at c.pop_back.ensures.cases in
+    let rows = rw c.unwrap-old_key.ensures at c.pop_back.ensures.cases in
     let new_rows = rw c.unwrap-value.ensures at c.pop.ensures.cases in
     record { merging = merging_both g c; left_within = omega arith; no_more = omega arith; same_block = omega arith }
 
