@@ -1,4 +1,4 @@
-//! The base of every other crate: ids, texts, small enums, and lists of rows that rise by key.
+//! The base of every other crate: ids, texts, small enums and small lists, and the orders of keys.
 #![tactic(auto)]
 
 mod exact_clone;
@@ -6,11 +6,12 @@ mod expired;
 mod ids;
 mod kinds;
 mod listed;
-mod memory;
 mod orders;
 mod place;
+mod plain_text;
 mod text;
 
+pub use ev_rows::{Keyed, NoMemory, RowList, rows_rise};
 pub use exact_clone::ExactClone;
 pub use expired::Expired;
 pub use ids::{
@@ -18,7 +19,7 @@ pub use ids::{
 };
 pub use kinds::{Flag, Privacy, Role, role_numbers_read_back};
 pub use listed::Listed;
-pub use memory::NoMemory;
 pub use orders::{code_compares_keys_in_their_order, keys_are_in_order};
 pub use place::Place;
+pub use plain_text::PlainText;
 pub use text::{Text, TextFault, TextKind};

@@ -1,7 +1,7 @@
 //! The laws of the orders of keys.
 
 ghost use Rattle.std.specs.Prelude.{◌≡◌};
-ghost use Rattle.ev_base.specs.KeyOrder.{KeyOrder};
+ghost use Rattle.ev_rows.specs.KeyOrder.{KeyOrder};
 ghost use Rattle.ev_base.specs.Orders.{message_cmp, reaction_cmp, stream_cmp, stream_user_cmp, text_cmp, user_cmp, user_message_cmp, user_stream_cmp};
 
 use crate::ids::{MessageId, StreamId, UserId};

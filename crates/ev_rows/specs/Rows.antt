@@ -5,7 +5,7 @@ use Rattle.std.specs.Ordering.{is_lt, is_gt}
 use Rattle.std.specs.List.{cons_option, filter_map}
 use Rattle.std.specs.List.Sorted.{IsStrictlySortedBy}
 use Rattle.std.specs.Map.{lookup}
-use Rattle.std.specs.BTreeMap.{is_at}
+use Rattle.std.specs.BTreeMap.{is_at, insert_entry}
 pub use Rattle.std.specs.Map.{keys_of}
 
 -- the rows of a table, and how many more it has room for
@@ -57,6 +57,11 @@ module _ {K : Type 0} (cmp : K → K → Ordering) where
   -- the value in the row of the key, if there is one
   abbrev pub row_at : {V : Type 0} → List (K × V) → K → Option V
   row_at rows key = lookup (is_at (cmp key)) rows
+
+  -- the rows, with each of the new ones put among them in turn
+  abbrev pub with_rows : {V : Type 0} → List (K × V) → List (K × V) → List (K × V)
+  with_rows rows [] = rows
+  with_rows rows (row ∷ new) = with_rows (insert_entry cmp rows row.0 row.1) new
 
   -- whether a key is below low or above high
   abbrev pub is_outside : K → K → K → Bool

@@ -1,0 +1,5 @@
+pub mod Clones
+pub mod KeyOrder
+pub mod Lent
+pub mod Place
+pub mod Rows
