@@ -1,0 +1,9 @@
+pub mod EventsSince
+pub mod FedLines
+pub mod Followers
+pub mod HistoryLines
+pub mod OtherStreams
+pub mod Replaying
+pub mod RowFolds
+pub mod TablesCount
+pub mod ViewChanges
