@@ -1,0 +1,2 @@
+pub mod RealmStanding
+pub mod ShardStanding
