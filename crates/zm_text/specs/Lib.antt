@@ -1,4 +1,0 @@
-pub mod Outcomes
-pub mod Playing
-pub mod Headline
-pub mod Texts

@@ -1,2 +1,0 @@
-pub mod RealmStanding
-pub mod ShardStanding
