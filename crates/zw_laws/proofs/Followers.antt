@@ -19,7 +19,8 @@ use Rattle.zw_lines.proofs.ShardSteps.{same_queue_is, pushed_tells, finished_tel
 use Rattle.zw_lines.proofs.ShardLines.{opened_at_within}
 use Rattle.zw_laws.proofs.FedLines.{position_announced}
 
-count_of-id_of : (n : ℕ) → count_of (id_of n) ≡ n
+-- so many events have ids up to that of the last of so many
+pub count_of-id_of : (n : ℕ) → count_of (id_of n) ≡ n
 count_of-id_of zero = refl
 count_of-id_of (suc n) = add-one n
 

@@ -1,5 +1,6 @@
 pub mod EventsSince
 pub mod FedLines
+pub mod FedSteps
 pub mod Followers
 pub mod HistoryLines
 pub mod OtherStreams

@@ -1,5 +1,5 @@
 -- How histories that are legal by each core's own steps grow, and that they are legal.
-use Rattle.std.specs.Prelude.{◌≡◌, ℕ, ◌<◌, List, ◌∷◌, length}
+use Rattle.std.specs.Prelude.{ℕ, ◌<◌, List, ◌∷◌, length}
 use Rattle.zw_lines.specs.declared.people.Notice.{Notice}
 use Rattle.zw_lines.specs.declared.realm.RealmInput.{RealmInput}
 use Rattle.zw_lines.specs.declared.realm.RealmInput.TheVariants.{Take}

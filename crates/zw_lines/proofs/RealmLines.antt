@@ -52,7 +52,7 @@ pub announced_grows : (step : RealmStep) (realm : List RealmStep) → IsLegalRea
 announced_grows step realm legal = (announced_after_within step.input step.reply realm legal.0 (announced_within realm legal.1)).0
 
 -- a notice tells the same after more steps
-IsNotice-stays : (step : RealmStep) (realm : List RealmStep) (number : ℕ) (notice : Notice) → number ≤ commits realm
+pub IsNotice-stays : (step : RealmStep) (realm : List RealmStep) (number : ℕ) (notice : Notice) → number ≤ commits realm
     → IsNotice (commands realm) number notice → IsNotice (commands (step ∷ realm)) number notice
 IsNotice-stays step realm number notice within is = record {
   numbered = is.numbered;

@@ -47,6 +47,7 @@ pub record Finishing (stream : Streams) (section : Sections) (before : List Shar
   pub rows_are : rows ≡ section queue before part
   pub last_is : last ≡ id_of (length (stream queue before))
   pub reached_is : reached ≡ position before
+  pub part_pushed : part.at ≤ position before
 
 module _ (stream : Streams) (section : Sections) (before : List ShardStep) where
   -- a queue that was opened is its user's next, at the position
@@ -65,22 +66,23 @@ module _ (stream : Streams) (section : Sections) (before : List ShardStep) where
   pub finished_tells : (queue : QueueId) (part : Part) (rows : Rows) (last : ℤ) (reached : ℕ)
       → ShardAnswers stream section before (Finish queue part) (Finished rows last reached)
       → Finishing stream section before queue part rows last reached
-  finished_tells queue part rows last reached answers = go (is_opening queue before) refl (nat_lt (position before) part.at) answers
+  finished_tells queue part rows last reached answers = go (is_opening queue before) refl (nat_lt (position before) part.at) refl answers
     where
       right : Type 0
       right = Finished rows last reached ≡ Finished (section queue before part) (id_of (length (stream queue before))) (position before)
 
-      go : (opens : Bool) → is_opening queue before ≡ opens → (early : Bool)
+      go : (opens : Bool) → is_opening queue before ≡ opens → (early : Bool) → nat_lt (position before) part.at ≡ early
           → MatchBool opens (MatchBool early (Finished rows last reached ≡ NotPushed (position before) part.at part) (OrNoMemory (Finished rows last reached) right)) (Finished rows last reached ≡ BadQueue)
           → Finishing stream section before queue part rows last reached
-      go false opens_is early is = cc
-      go true opens_is true is = cc
-      go true opens_is false (inr is) = cc
-      go true opens_is false (inl is) = record {
+      go false opens_is early early_is is = cc
+      go true opens_is true early_is is = cc
+      go true opens_is false early_is (inr is) = cc
+      go true opens_is false early_is (inl is) = record {
         was_opening = opens_is;
         rows_are = cc;
         last_is = cc;
         reached_is = cc;
+        part_pushed = ltb-false (position before) part.at early_is;
       }
 
   -- only a held queue is deleted

@@ -1,0 +1,4 @@
+pub mod LineWords
+pub mod Meanings
+pub mod Numbers
+pub mod Outcomes
