@@ -1,0 +1,5 @@
+pub mod Refusals
+pub mod OneRow
+pub mod NoticeLists
+pub mod MovesStand
+pub mod TakesEffects

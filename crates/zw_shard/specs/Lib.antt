@@ -1,0 +1,2 @@
+pub mod ShardData
+pub mod ShardStanding

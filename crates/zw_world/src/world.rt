@@ -1,0 +1,104 @@
+ghost use Rattle.std.specs.Prelude.{◌≡◌, ◌≤◌, ◌<◌, IfOk, length};
+ghost use Rattle.zw_lines.specs.RealmLine.{RealmAnswers};
+ghost use Rattle.zw_lines.specs.ShardLine.{ShardAnswers, given_rows, pushed_stream};
+ghost use Rattle.zw_lines.specs.Histories.{History, line_at, opening_history, shard_of, with_realm_step, with_shard_step};
+ghost use Rattle.zw_realm.specs.RealmStanding as of_realm;
+ghost use Rattle.zw_shard.specs.ShardStanding as of_shard;
+ghost use Rattle.zw_world.specs.Worlds.{MayReply, ShardMayReply, WorldStands};
+
+use ev_base::{NoMemory, UserId};
+use std::alloc::Global;
+use std::marker::Model;
+use zw_lines::{RealmInput, RealmReply, ShardInput, ShardReply};
+use zw_realm::RealmCore;
+use zw_shard::ShardCore;
+
+/// A realm and its shards. A user is served by the shard whose index is the user's number modulo
+/// their count.
+#[derive(Drop)]
+pub struct World {
+    realm: RealmCore,
+    shards: Vec<ShardCore>,
+}
+
+impl Model for World {
+    ghost use Rattle.std.specs.Prelude.{◌<◌, ◌≤◌, length};
+    ghost use Rattle.zw_world.specs.Worlds.{IsSound, WorldState};
+
+    ghost Value = { WorldState };
+
+    ghost view = { λ world. record { realm = world.realm; shards = world.shards.items } };
+
+    ghost invariant = { λ world. (1 ≤ length world.shards.items) × (length world.shards.items ≤ 16)
+        × IsSound (record { realm = world.realm; shards = world.shards.items }) };
+}
+
+impl World {
+    /// A world with an opening realm and so many shards, 1 to 16.
+    pub fn new(alloc: Global, shards: u32) -> Result<World, NoMemory>
+        requires some { 1 ≤ shards }
+        requires few { shards ≤ 16 }
+        ensures { IfOk result (λ world. WorldStands world (opening_history shards)) }
+    {
+        let mut cores = Vec::new(alloc);
+        for _shard in 0..shards {
+            cores.push(ShardCore::new(alloc))?;
+        }
+        Ok(World {
+            realm: RealmCore::new(alloc),
+            shards: cores,
+        })
+    }
+
+    /// The number of shards.
+    pub fn shards(&self) -> u32
+        ensures count { result ≡ length self.now.shards }
+        ensures some { 1 ≤ result }
+    {
+        self.shards.len() as u32
+    }
+
+    /// How many commits the realm announced.
+    pub fn announced(&self) -> u64
+        ensures { result ≡ self.now.realm.announced }
+    {
+        self.realm.announced()
+    }
+
+    /// The index of the shard that serves a user.
+    pub fn serving(&self, user: UserId) -> u32
+        ensures index { result ≡ shard_of (length self.now.shards) user }
+        ensures below { result < length self.now.shards }
+    {
+        user.0 % self.shards()
+    }
+
+    /// Asks the realm, whose answer is right after its steps before.
+    pub fn ask_realm(&mut self, alloc: Global, input: RealmInput) -> RealmReply
+        requires { of_realm.IsProper input }
+        ensures shards { length self.new.shards ≡ length self.old.shards }
+        ensures kind { MayReply input result }
+        ensures reply { (history : History) → WorldStands self.old history → RealmAnswers history.realm input result }
+        ensures stands { (history : History) → WorldStands self.old history
+            → WorldStands self.new (with_realm_step input result history) }
+    {
+        self.realm.step(alloc, input)
+    }
+
+    /// Asks a shard, whose answer is right by its own steps before.
+    pub fn ask_shard(&mut self, alloc: Global, shard: u32, input: ShardInput) -> ShardReply
+        requires index { shard < length self.old.shards }
+        requires proper { of_shard.IsProper input }
+        ensures shards { length self.new.shards ≡ length self.old.shards }
+        ensures kind { ShardMayReply input result }
+        ensures reply { (history : History) → WorldStands self.old history
+            → ShardAnswers pushed_stream given_rows (line_at shard history.shards) input result }
+        ensures stands { (history : History) → WorldStands self.old history
+            → WorldStands self.new (with_shard_step shard input result history) }
+    {
+        self.shards[shard as usize].step(alloc, input)
+    }
+}
+
+#[cfg(test)]
+mod tests;
