@@ -1,0 +1,13 @@
+pub mod ItemsInStreams
+pub mod LineStates
+pub mod OneReply
+pub mod OneTexts
+pub mod PlayedHistories
+pub mod PlayedPromises
+pub mod PlayedSteps
+pub mod PlayedTurns
+pub mod QueueClients
+pub mod Rounds
+pub mod Runs
+pub mod ShardCounts
+pub mod Standings

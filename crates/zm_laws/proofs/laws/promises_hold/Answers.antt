@@ -1,0 +1,5 @@
+use Rattle.zm_laws.proofs.PlayedPromises.{promises}
+use Rattle.zm_laws.proofs.laws.promises_hold.Goals as goal
+
+pub returns : goal.returns
+returns c = promises

@@ -1,0 +1,44 @@
+//! What is asked of the realm alone.
+
+ghost use Rattle.std.specs.Prelude.{◌≡◌, length};
+ghost use Rattle.zw_lines.specs.Histories.{with_realm_step};
+ghost use Rattle.zw_lines.specs.declared.realm.RealmInput.{RealmInput};
+ghost use Rattle.zw_lines.specs.declared.realm.RealmReply.{RealmReply};
+ghost use Rattle.zs_script.specs.declared.step.Step.{Step};
+ghost use Rattle.zm_text.specs.Playing.{Plays};
+ghost use Rattle.zm_play.specs.Flows.{Any, Goes, OrStops};
+
+use ev_base::{NoMemory, UserId};
+use std::alloc::Global;
+use zm_text::Outcome;
+use zw_lines::{Command, RealmInput, RealmReply};
+use zw_world::World;
+
+/// Asks for a change.
+pub fn commit(
+    world: &mut World,
+    alloc: Global,
+    actor: UserId,
+    command: Command,
+) -> Result<Outcome, NoMemory>
+    ensures goes { Goes world.old world.new Any (OrStops result (Plays (Step.Command actor command))) }
+    ensures shards { length world.new.shards ≡ length world.old.shards }
+{
+    match world.ask_realm(alloc, RealmInput::Commit { actor, command }) {
+        RealmReply::Committed { number, id } => Ok(Outcome::Committed { number, id }),
+        RealmReply::Refused(why) => Ok(Outcome::Refused(why)),
+        RealmReply::NoMemory => Err(NoMemory),
+        _ => unreachable!(),
+    }
+}
+
+/// Announces all commits, and tells how many they are.
+pub fn announce(world: &mut World, alloc: Global) -> u64
+    ensures goes { Goes world.old world.new Any (λ before after. after ≡ with_realm_step RealmInput.NoticeAll (RealmReply.Noticed result) before) }
+    ensures shards { length world.new.shards ≡ length world.old.shards }
+{
+    match world.ask_realm(alloc, RealmInput::NoticeAll) {
+        RealmReply::Noticed { count } => count,
+        _ => unreachable!(),
+    }
+}

@@ -1,0 +1,49 @@
+-- The line of output that tells an outcome.
+use Rattle.std.specs.Prelude.{ℕ, Option, None, Some, List, [], ◌∷◌, ◌++◌, codes, decimal}
+use Rattle.std.specs.Fmt.{signed_decimal}
+use Rattle.zw_lines.specs.declared.people.Refusal.{Refusal}
+use Rattle.zw_lines.specs.declared.people.Refusal.TheVariants.{ActorUnknown, NoSuchUser, AlreadySo, LogFull}
+use Rattle.ev_wire.specs.Bodies.{register_text, events_text}
+use Rattle.zm_text.specs.declared.outcome.Outcome.{Outcome}
+use Rattle.zm_text.specs.declared.outcome.Outcome.TheVariants.{Committed, Refused, Noticed, Pushed, Finished, OpensSpent, TooManyQueues, FetchRefused, Answered, Empty, BadQueue, NotSent, Pruned}
+
+-- a word and the next, with a space between
+abbrev pub and_then : List ℕ → List ℕ → List ℕ
+and_then first next = first ++ 32 ∷ next
+
+-- a refusal by its place in the order of refusals, and its name
+abbrev pub refusal_text : Refusal → List ℕ
+refusal_text ActorUnknown = codes "refused 1 ActorUnknown"
+refusal_text NoSuchUser = codes "refused 3 NoSuchUser"
+refusal_text AlreadySo = codes "refused 7 AlreadySo"
+refusal_text LogFull = codes "refused 11 LogFull"
+
+-- a word, the position that was reached, and a body
+abbrev pub with_body : List ℕ → ℕ → List ℕ → List ℕ
+with_body word reached body = and_then word (and_then (decimal reached) body)
+
+-- a commit by its number, with the id of what it made, if it made something
+abbrev pub committed_text : ℕ → Option ℕ → List ℕ
+committed_text number None = and_then (codes "committed") (decimal number)
+committed_text number (Some id) = and_then (codes "committed") (and_then (decimal number) (decimal id))
+
+-- the line, without its line feed
+abbrev pub line_of : Outcome → List ℕ
+line_of (Committed number id) = committed_text number id
+line_of (Refused why) = refusal_text why
+line_of (Noticed count) = and_then (codes "noticed") (decimal count)
+line_of (Pushed position) = and_then (codes "pushed") (decimal position)
+line_of (Finished reached queue last_event_id rows) =
+    with_body (codes "finished") reached (register_text queue last_event_id rows)
+line_of OpensSpent = codes "opens_spent"
+line_of TooManyQueues = codes "too_many 32"
+line_of FetchRefused = codes "fetch_refused"
+line_of (Answered reached queue items) = with_body (codes "answer") reached (events_text queue items)
+line_of (Empty reached) = and_then (codes "empty") (decimal reached)
+line_of BadQueue = codes "bad_queue"
+line_of (NotSent greatest) = and_then (codes "not_sent") (signed_decimal greatest)
+line_of (Pruned newest) = and_then (codes "pruned") (signed_decimal newest)
+
+-- the line of output, with its line feed
+abbrev pub text_of_outcome : Outcome → List ℕ
+text_of_outcome outcome = line_of outcome ++ 10 ∷ []

@@ -1,0 +1,219 @@
+//! What is printed for a step of a script.
+
+ghost use Rattle.std.specs.Prelude.{◌≡◌, ◌++◌, IfOk, IfSome, OnErr, OnOk};
+ghost use Rattle.zm_text.specs.Outcomes.{and_then, committed_text, line_of, refusal_text, text_of_outcome, with_body};
+
+use ev_base::{Listed, NoMemory, QueueId, UserId};
+use ev_wire::{write_events, write_register};
+use std::alloc::Global;
+use std::fmt::Display;
+use zw_lines::{Item, Person, Refusal};
+
+/// What a line of output tells of a step.
+#[derive(Debug, Drop)]
+pub enum Outcome {
+    Committed {
+        number: u64,
+        id: Option<u32>,
+    },
+    Refused(Refusal),
+    Noticed {
+        count: u64,
+    },
+    Pushed {
+        position: u64,
+    },
+    Finished {
+        reached: u64,
+        queue: QueueId,
+        last_event_id: i64,
+        rows: Listed<(UserId, Person)>,
+    },
+    OpensSpent,
+    TooManyQueues,
+    FetchRefused,
+    Answered {
+        reached: u64,
+        queue: QueueId,
+        items: Listed<Item>,
+    },
+    Empty {
+        reached: u64,
+    },
+    BadQueue,
+    NotSent {
+        greatest: i64,
+    },
+    Pruned {
+        newest: i64,
+    },
+}
+
+impl Outcome {
+    /// Appends the line of output that tells this outcome, with its line feed.
+    pub fn write(&self, alloc: Global, out: &mut Vec<u8>) -> Result<(), NoMemory>
+        ensures ok { OnOk result (out.new.items ≡ out.old.items ++ text_of_outcome self.now) }
+        ensures err { OnErr result (out.new.items ≡ out.old.items) }
+    {
+        let mut line = self.line(alloc)?;
+        line.push(b'\n')?;
+        out.extend_from_slice(&line)?;
+        Ok(())
+    }
+
+    /// The line without its line feed.
+    fn line(&self, alloc: Global) -> Result<Vec<u8>, NoMemory>
+        ensures { IfOk result (λ line. line.items ≡ line_of self.now) }
+    {
+        match self {
+            Outcome::Committed { number, id } => committed_line(alloc, *number, *id),
+            Outcome::Refused(why) => text_line(alloc, refusal_words(*why)),
+            Outcome::Noticed { count } => word_line(alloc, "noticed", count),
+            Outcome::Pushed { position } => word_line(alloc, "pushed", position),
+            Outcome::Finished {
+                reached,
+                queue,
+                last_event_id,
+                rows,
+            } => {
+                let body = write_register(alloc, queue, *last_event_id, rows.as_slice())?;
+                body_line(alloc, "finished", *reached, &body)
+            }
+            Outcome::OpensSpent => text_line(alloc, "opens_spent"),
+            Outcome::TooManyQueues => text_line(alloc, "too_many 32"),
+            Outcome::FetchRefused => text_line(alloc, "fetch_refused"),
+            Outcome::Answered {
+                reached,
+                queue,
+                items,
+            } => {
+                let body = write_events(alloc, queue, items.as_slice())?;
+                body_line(alloc, "answer", *reached, &body)
+            }
+            Outcome::Empty { reached } => word_line(alloc, "empty", reached),
+            Outcome::BadQueue => text_line(alloc, "bad_queue"),
+            Outcome::NotSent { greatest } => word_line(alloc, "not_sent", greatest),
+            Outcome::Pruned { newest } => word_line(alloc, "pruned", newest),
+        }
+    }
+}
+
+fn refusal_words(why: Refusal) -> &'static str
+    ensures { result.now ≡ refusal_text why }
+{
+    match why {
+        Refusal::ActorUnknown => "refused 1 ActorUnknown",
+        Refusal::NoSuchUser => "refused 3 NoSuchUser",
+        Refusal::AlreadySo => "refused 7 AlreadySo",
+        Refusal::LogFull => "refused 11 LogFull",
+    }
+}
+
+fn committed_line(alloc: Global, number: u64, id: Option<u32>) -> Result<Vec<u8>, NoMemory>
+    ensures { IfOk result (λ line. line.items ≡ committed_text number id) }
+{
+    match id {
+        None => word_line(alloc, "committed", &number),
+        Some(id) => word_line(alloc, "committed", &format_args!("{number} {id}")),
+    }
+}
+
+fn body_line(alloc: Global, word: &str, reached: u64, body: &[u8]) -> Result<Vec<u8>, NoMemory>
+    ensures { IfOk result (λ line. line.items ≡ with_body word.now reached body.now) }
+{
+    let mut line = word_line(alloc, word, &reached)?;
+    line.push(b' ')?;
+    line.extend_from_slice(body)?;
+    Ok(line)
+}
+
+fn word_line<D: Display>(alloc: Global, word: &str, value: &D) -> Result<Vec<u8>, NoMemory>
+    ensures { IfOk result
+        (λ line. IfSome (D.output value.now) (λ text. line.items ≡ and_then word.now text)) }
+{
+    Ok(format!(in alloc; "{word} {value}")?.into_bytes())
+}
+
+fn text_line(alloc: Global, text: &str) -> Result<Vec<u8>, NoMemory>
+    ensures { IfOk result (λ line. line.items ≡ text.now) }
+{
+    Ok(text.as_bytes().to_vec(alloc)?)
+}
+
+#[cfg(test)]
+mod tests {
+    use super::*;
+    use std::test::Fail;
+
+    const QUEUE: QueueId = QueueId {
+        user: UserId(1),
+        number: 0,
+        salt: 0,
+    };
+
+    #[test]
+    fn each_outcome_appends_its_line(rt: HostRuntime) -> Result<(), Fail> {
+        let alloc = rt.alloc();
+        let finished = Outcome::Finished {
+            reached: 1,
+            queue: QUEUE,
+            last_event_id: -1,
+            rows: Listed::from_vec(Vec::new(alloc)),
+        };
+        let answered = Outcome::Answered {
+            reached: 2,
+            queue: QUEUE,
+            items: Listed::from_vec(Vec::new(alloc)),
+        };
+        let mut out = Vec::new(alloc);
+        let mut expected = String::new(alloc);
+        for (outcome, line) in [
+            (
+                Outcome::Committed {
+                    number: 1,
+                    id: Some(2),
+                },
+                "committed 1 2",
+            ),
+            (
+                Outcome::Committed {
+                    number: 3,
+                    id: None,
+                },
+                "committed 3",
+            ),
+            (
+                Outcome::Refused(Refusal::ActorUnknown),
+                "refused 1 ActorUnknown",
+            ),
+            (
+                Outcome::Refused(Refusal::NoSuchUser),
+                "refused 3 NoSuchUser",
+            ),
+            (Outcome::Refused(Refusal::AlreadySo), "refused 7 AlreadySo"),
+            (Outcome::Refused(Refusal::LogFull), "refused 11 LogFull"),
+            (Outcome::Noticed { count: 1 }, "noticed 1"),
+            (Outcome::Pushed { position: 1 }, "pushed 1"),
+            (
+                finished,
+                r#"finished 1 {"last_event_id":-1,"msg":"","queue_id":"00000001-0000-0000-0000-000000000000","realm_users":[],"result":"success","zulip_feature_level":1}"#,
+            ),
+            (Outcome::OpensSpent, "opens_spent"),
+            (Outcome::TooManyQueues, "too_many 32"),
+            (Outcome::FetchRefused, "fetch_refused"),
+            (
+                answered,
+                r#"answer 2 {"events":[],"msg":"","queue_id":"00000001-0000-0000-0000-000000000000","result":"success"}"#,
+            ),
+            (Outcome::Empty { reached: 2 }, "empty 2"),
+            (Outcome::BadQueue, "bad_queue"),
+            (Outcome::NotSent { greatest: -1 }, "not_sent -1"),
+            (Outcome::Pruned { newest: 0 }, "pruned 0"),
+        ] {
+            outcome.write(alloc, &mut out)?;
+            writeln!(expected, "{line}")?;
+        }
+        assert_eq!(rt; out.as_slice(), expected.as_bytes());
+        Ok(())
+    }
+}
