@@ -1,0 +1,4 @@
+pub mod Feeds
+pub mod Told
+pub mod Playing
+pub mod Ending

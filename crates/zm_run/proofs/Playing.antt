@@ -1,0 +1,156 @@
+-- What a runner played grows by the lines of a piece, up to one that it doesn't play.
+use Rattle.std.proofs.Common.{◌≡◌, ◌≢◌, ℕ, suc, ◌+◌, ◌-◌, ◌<◌, ◌≤◌, Option, Result, Ok, Err, MatchResult, OnOk, OnErr, List, [], ◌∷◌, ◌++◌, ◌⊎◌, length, get_or, take, drop, refl, sym, ap, subst, ◌∙◌, inl, inr, append_assoc, append-nil, arith}
+use Rattle.std.proofs.lemmas.List.{take-append-drop}
+use Rattle.ev_ports.specs.Ports.{IsSpent}
+use Rattle.zs_script.specs.declared.step.Step.{Step}
+use Rattle.zs_script.specs.Grammar.{IsPassedOver, Spells}
+use Rattle.zm_text.specs.Outcomes.{text_of_outcome}
+use Rattle.zm_text.specs.Texts.{HasText}
+use Rattle.zm_run.specs.declared.runner.Runner.{Runner}
+use Rattle.zm_run.specs.declared.runner.Stop.{Stop}
+use Rattle.zm_run.specs.declared.runner.Stop.TheVariants.{BadLine, NoMemory}
+use Rattle.zm_run.specs.Inputs.{AreLines, BeginsNoStep, BeginsTooLong, HasNoFeed, IsLine, SplitsWhole, bytes_of, longest_line}
+use Rattle.zm_run.specs.Ends.{shards}
+use Rattle.zm_run.specs.Running.{HasPlayed, IsBad, IsWhy, PlayedOn, PlayedToEnd, PlaysStep, ScriptsAreSound, Stands, StoppedIn}
+use Rattle.zm_run.proofs.Feeds.{line_taken, line_begins}
+use Rattle.zm_run.proofs.Told.{stands_past, stands_after}
+
+-- a line that is passed over was played
+pub passes_line : (old new : Runner) (line : List ℕ) (lines : List (List ℕ)) (written : List ℕ) → IsLine line → IsPassedOver line
+    → new.player ≡ old.player → new.output.items ≡ old.output.items → new.lines ≡ old.lines + 1
+    → HasPlayed old lines written → HasPlayed new (line ∷ lines) written
+passes_line old new line lines written is_line passes player output counts played =
+    let stands = stands_past old.player line lines (written ++ old.output.items) passes played.stands in
+    let told : Stands new.player (line ∷ lines) (written ++ old.output.items) =
+    subst (λ p. Stands p (line ∷ lines) (written ++ old.output.items)) (sym player) stands in
+    record {
+      stands = subst (λ t. Stands new.player (line ∷ lines) (written ++ t)) (sym output) told;
+      counted = let before = played.counted in omega arith;
+      good = (is_line, played.good);
+    }
+
+-- a line that spells a step was played
+pub plays_line : ScriptsAreSound → (old mid new : Runner) (line : List ℕ) (lines : List (List ℕ)) (written : List ℕ) (step : Step)
+    → IsLine line → Spells line step → PlaysStep step old mid
+    → new.player ≡ mid.player → new.output.items ≡ mid.output.items → new.lines ≡ old.lines + 1
+    → HasPlayed old lines written → HasPlayed new (line ∷ lines) written
+plays_line sound old mid new line lines written step is_line spells plays player output counts played =
+    let added = text_of_outcome plays.outcome in
+    let text = written ++ old.output.items in
+    let stands = stands_after sound old.player mid.player line lines text step plays.outcome spells plays.played played.stands in
+    let same : text ++ added ≡ written ++ new.output.items =
+    append_assoc written old.output.items added ∙ ap (λ t. written ++ t) (sym plays.output ∙ sym output) in
+    let told : Stands mid.player (line ∷ lines) (written ++ new.output.items) = subst (λ t. Stands mid.player (line ∷ lines) t) same stands in
+    record {
+      stands = subst (λ p. Stands p (line ∷ lines) (written ++ new.output.items)) (sym player) told;
+      counted = let before = played.counted in omega arith;
+      good = (is_line, played.good);
+    }
+
+-- no bytes, no lines
+pub played_none : (runner : Runner) (lines : List (List ℕ)) (written : List ℕ) → HasPlayed runner lines written → PlayedOn runner lines written []
+played_none runner lines written played = record { after = lines; played = played; spelled = sym (append-nil (bytes_of lines)) }
+
+-- one more line of a piece was played
+pub played_more : (old new : Runner) (lines : List (List ℕ)) (written bytes : List ℕ) (used n : ℕ)
+    → n < length (drop used bytes) → get_or (drop used bytes) n 0 ≡ 10
+    → ((before : List (List ℕ)) → HasPlayed old before written → HasPlayed new (take n (drop used bytes) ∷ before) written)
+    → PlayedOn old lines written (take used bytes) → PlayedOn new lines written (take (used + n + 1) bytes)
+played_more old new lines written bytes used n below feed goes on =
+    let line = take n (drop used bytes) in
+    record {
+      after = line ∷ on.after;
+      played = goes on.after on.played;
+      spelled = ap (λ front. front ++ (line ++ 10 ∷ [])) on.spelled
+          ∙ append_assoc (bytes_of lines) (take used bytes) (line ++ 10 ∷ [])
+          ∙ ap (λ back. bytes_of lines ++ back) (sym (line_taken bytes used n below feed));
+    }
+
+-- a line of a piece wasn't played
+pub stopped_in : (stop : Stop) (old new : Runner) (lines : List (List ℕ)) (written bytes : List ℕ) (used : ℕ) (left : Option (List ℕ))
+    → PlayedOn old lines written (take used bytes) → new.output.items ≡ old.output.items → new.lines ≡ old.lines
+    → IsWhy stop (drop used bytes) left → StoppedIn stop new lines written bytes left
+stopped_in stop old new lines written bytes used left on output counts why = record {
+  after = on.after;
+  rest = drop used bytes;
+  text = subst (λ t. HasText shards on.after (written ++ t)) (sym output) on.played.stands.told;
+  counted = counts ∙ on.played.counted;
+  good = on.played.good;
+  spelled = ap (λ t. bytes_of lines ++ t) (sym (take-append-drop used bytes))
+      ∙ sym (append_assoc (bytes_of lines) (take used bytes) (drop used bytes))
+      ∙ ap (λ front. front ++ drop used bytes) (sym on.spelled);
+  why = why;
+}
+
+-- a bad line with a feed behind it
+why_of_line : (line more : List ℕ) (left : Option (List ℕ)) → HasNoFeed line → IsBad line
+    → BeginsTooLong (line ++ 10 ∷ more) ⊎ BeginsNoStep (line ++ 10 ∷ more) left
+why_of_line line more left no_feed (inl long) = inl (record { front = line; more = 10 ∷ more; begins = refl; no_feed = no_feed; long = long })
+why_of_line line more left no_feed (inr bad) =
+    inr (record { line = line; more = more; is_line = record { no_feed = no_feed; short = bad.0 }; no_step = bad.1; begins = inl refl })
+
+-- why a line of a piece isn't played
+pub why_in : (stop : Stop) (bytes : List ℕ) (n : ℕ) (left : Option (List ℕ)) → n < length bytes → get_or bytes n 0 ≡ 10
+    → HasNoFeed (take n bytes) → (stop ≡ BadLine → IsBad (take n bytes)) → IsWhy stop bytes left
+why_in BadLine bytes n left below feed no_feed bad =
+    subst (λ t. BeginsTooLong t ⊎ BeginsNoStep t left) (sym (line_begins bytes n below feed))
+    (why_of_line (take n bytes) (drop (suc n) bytes) left no_feed (bad refl))
+why_in NoMemory bytes n left below feed no_feed bad = tt
+
+-- a line is too long before its feed is seen
+pub why_too_long : (rest : List ℕ) (left : Option (List ℕ)) → HasNoFeed rest → longest_line < length rest → IsWhy BadLine rest left
+why_too_long rest left no_feed long = inl (record { front = rest; more = []; begins = sym (append-nil rest); no_feed = no_feed; long = long })
+
+-- why the last line of the input isn't played
+pub why_at_end : (stop : Stop) (line : List ℕ) (left : Option (List ℕ)) → HasNoFeed line → IsSpent left → (stop ≡ BadLine → IsBad line) → IsWhy stop line left
+why_at_end NoMemory line left no_feed spent bad = tt
+why_at_end BadLine line left no_feed spent bad =
+    elim (bad refl) as (λ _. IsWhy BadLine line left) [
+      | inl long ↦ why_too_long line left no_feed long
+      | inr is_bad ↦ inr (record {
+        line = line;
+        more = [];
+        is_line = record { no_feed = no_feed; short = is_bad.0 };
+        no_step = is_bad.1;
+        begins = inr (refl, spent);
+      })
+    ]
+
+-- the last line isn't played
+pub stopped_at_end : (stop : Stop) (old new : Runner) (lines : List (List ℕ)) (written rest : List ℕ) (left : Option (List ℕ))
+    → HasPlayed old lines written → new.output.items ≡ old.output.items → new.lines ≡ old.lines
+    → IsWhy stop rest left → StoppedIn stop new lines written rest left
+stopped_at_end stop old new lines written rest left played output counts why = record {
+  after = lines;
+  rest = rest;
+  text = subst (λ t. HasText shards lines (written ++ t)) (sym output) played.stands.told;
+  counted = counts ∙ played.counted;
+  good = played.good;
+  spelled = refl;
+  why = why;
+}
+
+split_at_feed : (lines : List (List ℕ)) → AreLines lines → SplitsWhole (bytes_of lines ++ []) lines
+split_at_feed [] good = refl
+split_at_feed (line ∷ before) good = (good, inl (append-nil (bytes_of (line ∷ before))))
+
+-- the last line ends in a feed
+pub ended_at_feed : (runner : Runner) (lines : List (List ℕ)) (written : List ℕ) → HasPlayed runner lines written → PlayedToEnd runner lines written []
+ended_at_feed runner lines written played = record { after = lines; played = played; split = split_at_feed lines played.good }
+
+-- the last line lacks its feed
+pub ended_without_feed : (runner : Runner) (lines : List (List ℕ)) (written rest : List ℕ) → rest ≢ []
+    → HasPlayed runner (rest ∷ lines) written → PlayedToEnd runner lines written rest
+ended_without_feed runner lines written rest some played = record { after = rest ∷ lines; played = played; split = (played.good, inr (some, refl)) }
+
+-- the last line is played or not
+pub rest_played : (result : Result (Unit {0}) Stop) (old new : Runner) (lines : List (List ℕ)) (written rest : List ℕ) (left : Option (List ℕ))
+    → rest ≢ [] → HasNoFeed rest → IsSpent left → HasPlayed old lines written
+    → OnOk result ((before : List (List ℕ)) (text : List ℕ) → HasNoFeed rest → HasPlayed old before text → HasPlayed new (rest ∷ before) text)
+    → (result ≡ Err BadLine → IsBad rest) → OnErr result (new.lines ≡ old.lines) → OnErr result (new.output.items ≡ old.output.items)
+    → MatchResult result (λ _. PlayedToEnd new lines written rest) (λ stop. StoppedIn stop new lines written rest left)
+rest_played (Ok done) old new lines written rest left some no_feed spent played goes bad counts output =
+    ended_without_feed new lines written rest some (goes lines written no_feed played)
+rest_played (Err stop) old new lines written rest left some no_feed spent played goes bad counts output =
+    stopped_at_end stop old new lines written rest left played output counts
+    (why_at_end stop rest left no_feed spent (λ is_bad. bad (ap (λ (s : Stop). Err s) is_bad)))

@@ -1,0 +1,5 @@
+pub mod Inputs
+pub mod Ends
+pub mod Running
+pub mod Numbers
+pub mod Stops

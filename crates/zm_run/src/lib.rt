@@ -1,0 +1,13 @@
+//! Runs a script, from the bytes that a source gives to the bytes that a sink takes.
+#![tactic(auto)]
+
+mod input;
+mod laws;
+mod replay;
+mod runner;
+mod status;
+#[cfg(test)]
+mod tests;
+
+pub use replay::{are_the_word, run};
+pub use status::Status;
