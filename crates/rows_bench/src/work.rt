@@ -1,0 +1,46 @@
+//! The pieces of work.
+
+ghost use Rattle.std.specs.Prelude.{◌≡◌, ◌+◌, ◌≤◌, vec_len};
+
+use ev_base::{MessageId, NoMemory, UserId, rows_rise};
+use std::alloc::Global;
+use zr_posts::{Posts, Receipt};
+
+const UNREAD: Receipt = Receipt {
+    read: false,
+    starred: false,
+    collapsed: false,
+};
+
+/// A million receipts, put in rising order: a hundred for each of ten thousand users.
+pub fn filled(alloc: Global) -> Result<Posts, NoMemory> {
+    let mut posts = Posts::new(alloc);
+    posts.receipts_reserve(1_000_000)?;
+    for place in 0..1_000_000 {
+        let key = (UserId(1 + place / 100), MessageId(1 + place % 100));
+        posts.receipts_put(key, UNREAD);
+    }
+    Ok(posts)
+}
+
+/// Ten thousand more for a user in the middle, one at a time.
+pub fn put_in_the_middle(mut posts: Posts) -> Result<Posts, NoMemory> {
+    posts.receipts_reserve(10_000)?;
+    for place in 0..10_000 {
+        posts.receipts_put((UserId(5_000), MessageId(1_000 + place)), UNREAD);
+    }
+    Ok(posts)
+}
+
+/// One more for each user, as a message to all of them brings, in one pass.
+pub fn merged(alloc: Global, mut posts: Posts) -> Result<Posts, NoMemory> {
+    let mut new_rows = Vec::with_capacity(alloc, 10_000)?;
+    for user in 1..10_001 {
+        new_rows.push(((UserId(user), MessageId(1_000)), UNREAD))?;
+    }
+    if rows_rise(&new_rows) {
+        posts.receipts_reserve(new_rows.len())?;
+        posts.receipts_merge(new_rows);
+    }
+    Ok(posts)
+}

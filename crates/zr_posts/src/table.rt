@@ -1,0 +1,220 @@
+//! The table of posts.
+
+ghost use Rattle.std.specs.Prelude.{◌≡◌, ◌≤◌, ◌+◌, Bool, [], length, filter, if◌then◌else◌, is_some, IfOk, IsNone, IsOk, OnOk, option_copied, vec_len};
+ghost use Rattle.std.specs.Option.{option_copied_mut};
+ghost use Rattle.std.specs.Borrow.{sem};
+ghost use Rattle.std.specs.Fn.{CalledAt, ComputesKey};
+ghost use Rattle.std.specs.List.Retain.{IsFiltered};
+ghost use Rattle.std.specs.Map.{remove_entry};
+ghost use Rattle.std.specs.BTreeMap.{insert_entry, is_at};
+ghost use Rattle.ev_rows.specs.Rows.{RowsRise, is_outside, row_at, with_rows};
+ghost use Rattle.ev_base.specs.Orders.{message_cmp, user_message_cmp};
+ghost use Rattle.zr_posts.specs.Lent.{lends_message, lends_receipt};
+
+use crate::rows::{Message, Receipt};
+use ev_base::{Keyed, MessageId, NoMemory, UserId};
+use std::alloc::Global;
+use std::marker::Model;
+
+/// The messages by their number, and the receipts by user and message.
+///
+/// Beside the reserves no call takes memory.
+#[derive(Debug, Drop)]
+pub struct Posts {
+    messages: Keyed<MessageId, Message>,
+    receipts: Keyed<(UserId, MessageId), Receipt>,
+}
+
+impl Model for Posts {
+    ghost use Rattle.zr_posts.specs.Tables.{PostTables};
+
+    ghost Value = { PostTables };
+
+    ghost view = { λ it. record { messages = it.messages; receipts = it.receipts } };
+}
+
+impl Posts {
+    /// No messages and no receipts. What is allocated later comes from `alloc`.
+    pub fn new(alloc: Global) -> Posts
+        ensures messages { result.messages.rows ≡ [] }
+        ensures receipts { result.receipts.rows ≡ [] }
+    {
+        Posts {
+            messages: Keyed::new(alloc),
+            receipts: Keyed::new(alloc),
+        }
+    }
+
+    /// A table with the same rows.
+    pub fn copy(&self) -> Result<Posts, NoMemory>
+        ensures messages { IfOk result (λ copy. copy.messages.rows ≡ self.now.messages.rows) }
+        ensures receipts { IfOk result (λ copy. copy.receipts.rows ≡ self.now.receipts.rows) }
+    {
+        Ok(Posts {
+            messages: self.messages.clone()?,
+            receipts: self.receipts.clone()?,
+        })
+    }
+
+    pub fn messages_get(&self, key: &MessageId) -> Option<&Message>
+        ensures { option_copied result ≡ row_at message_cmp self.now.messages.rows key.now }
+    {
+        self.messages.get(key)
+    }
+
+    pub fn messages_get_mut(&mut self, key: &MessageId) -> Option<&mut Message>
+        ensures* writes_back { sem 𝓛 (lends_message self.entry key.now result) }
+        ensures value { option_copied_mut result ≡ row_at message_cmp self.old.messages.rows key.now }
+    {
+        self.messages.get_mut(key)
+    }
+
+    /// All messages, rising by number.
+    pub fn messages_rows(&self) -> &[(MessageId, Message)]
+        ensures all { result.now ≡ self.now.messages.rows }
+        ensures rise { RowsRise message_cmp self.now.messages.rows }
+    {
+        self.messages.rows()
+    }
+
+    /// Makes room for `more` messages that are not there yet.
+    pub fn messages_reserve(&mut self, more: usize) -> Result<(), NoMemory>
+        ensures room { OnOk result (more ≤ self.new.messages.spare) }
+        ensures succeeds { more ≤ self.old.messages.spare → IsOk result }
+        ensures rows { self.new.messages.rows ≡ self.old.messages.rows }
+        ensures spare { self.old.messages.spare ≤ self.new.messages.spare }
+        ensures receipts { self.new.receipts ≡ self.old.receipts }
+    {
+        self.messages.reserve(more)
+    }
+
+    /// Writes the message's row, and answers the one that the message had.
+    pub fn messages_put(&mut self, key: MessageId, row: Message) -> Option<Message>
+        requires { IsNone (row_at message_cmp self.old.messages.rows key) → 1 ≤ self.old.messages.spare }
+        ensures before { result ≡ row_at message_cmp self.old.messages.rows key }
+        ensures rows { self.new.messages.rows ≡ insert_entry message_cmp self.old.messages.rows key row }
+        ensures room { self.old.messages.spare
+            ≤ self.new.messages.spare + (if is_some result then 0 else 1) }
+        ensures receipts { self.new.receipts ≡ self.old.receipts }
+    {
+        self.messages.put(key, row)
+    }
+
+    /// Takes the message's row out, and answers it.
+    pub fn messages_drop_key(&mut self, key: &MessageId) -> Option<Message>
+        ensures before { result ≡ row_at message_cmp self.old.messages.rows key.now }
+        ensures rows { self.new.messages.rows
+            ≡ remove_entry (is_at (message_cmp key.now)) self.old.messages.rows }
+        ensures room { self.old.messages.spare ≤ self.new.messages.spare }
+        ensures receipts { self.new.receipts ≡ self.old.receipts }
+    {
+        self.messages.drop_key(key)
+    }
+
+    /// Takes out the messages from `low` to `high`, both included, and answers how many.
+    pub fn messages_drop_between(&mut self, low: &MessageId, high: &MessageId) -> u64
+        ensures rows { self.new.messages.rows
+            ≡ filter (λ row. is_outside message_cmp low.now high.now row.0) self.old.messages.rows }
+        ensures count { result + length self.new.messages.rows ≡ length self.old.messages.rows }
+        ensures room { self.old.messages.spare ≤ self.new.messages.spare }
+        ensures receipts { self.new.receipts ≡ self.old.receipts }
+    {
+        self.messages.drop_between(low, high)
+    }
+
+    pub fn receipts_get(&self, key: &(UserId, MessageId)) -> Option<&Receipt>
+        ensures { option_copied result ≡ row_at user_message_cmp self.now.receipts.rows key.now }
+    {
+        self.receipts.get(key)
+    }
+
+    pub fn receipts_get_mut(&mut self, key: &(UserId, MessageId)) -> Option<&mut Receipt>
+        ensures* writes_back { sem 𝓛 (lends_receipt self.entry key.now result) }
+        ensures value { option_copied_mut result ≡ row_at user_message_cmp self.old.receipts.rows key.now }
+    {
+        self.receipts.get_mut(key)
+    }
+
+    /// All receipts, rising by user and then by message.
+    pub fn receipts_rows(&self) -> &[((UserId, MessageId), Receipt)]
+        ensures all { result.now ≡ self.now.receipts.rows }
+        ensures rise { RowsRise user_message_cmp self.now.receipts.rows }
+    {
+        self.receipts.rows()
+    }
+
+    /// Makes room for `more` receipts that are not there yet.
+    pub fn receipts_reserve(&mut self, more: usize) -> Result<(), NoMemory>
+        ensures room { OnOk result (more ≤ self.new.receipts.spare) }
+        ensures succeeds { more ≤ self.old.receipts.spare → IsOk result }
+        ensures rows { self.new.receipts.rows ≡ self.old.receipts.rows }
+        ensures spare { self.old.receipts.spare ≤ self.new.receipts.spare }
+        ensures messages { self.new.messages ≡ self.old.messages }
+    {
+        self.receipts.reserve(more)
+    }
+
+    /// Writes the receipt of a user for a message, and answers the one that was there.
+    pub fn receipts_put(&mut self, key: (UserId, MessageId), row: Receipt) -> Option<Receipt>
+        requires { IsNone (row_at user_message_cmp self.old.receipts.rows key) → 1 ≤ self.old.receipts.spare }
+        ensures before { result ≡ row_at user_message_cmp self.old.receipts.rows key }
+        ensures rows { self.new.receipts.rows ≡ insert_entry user_message_cmp self.old.receipts.rows key row }
+        ensures room { self.old.receipts.spare
+            ≤ self.new.receipts.spare + (if is_some result then 0 else 1) }
+        ensures messages { self.new.messages ≡ self.old.messages }
+    {
+        self.receipts.put(key, row)
+    }
+
+    /// Puts each of the new receipts, all in one pass.
+    pub fn receipts_merge(&mut self, new_rows: Vec<((UserId, MessageId), Receipt)>)
+        requires rise { RowsRise user_message_cmp new_rows.items }
+        requires room { vec_len new_rows ≤ self.old.receipts.spare }
+        ensures rows { self.new.receipts.rows ≡ with_rows user_message_cmp self.old.receipts.rows new_rows.items }
+        ensures room { self.old.receipts.spare ≤ self.new.receipts.spare + vec_len new_rows }
+        ensures messages { self.new.messages ≡ self.old.messages }
+    {
+        self.receipts.merge(new_rows);
+    }
+
+    /// Takes the receipt of a user for a message out, and answers it.
+    pub fn receipts_drop_key(&mut self, key: &(UserId, MessageId)) -> Option<Receipt>
+        ensures before { result ≡ row_at user_message_cmp self.old.receipts.rows key.now }
+        ensures rows { self.new.receipts.rows
+            ≡ remove_entry (is_at (user_message_cmp key.now)) self.old.receipts.rows }
+        ensures room { self.old.receipts.spare ≤ self.new.receipts.spare }
+        ensures messages { self.new.messages ≡ self.old.messages }
+    {
+        self.receipts.drop_key(key)
+    }
+
+    /// Takes out the receipts from `low` to `high`, both included, and answers how many.
+    pub fn receipts_drop_between(
+        &mut self,
+        low: &(UserId, MessageId),
+        high: &(UserId, MessageId),
+    ) -> u64
+        ensures rows { self.new.receipts.rows
+            ≡ filter (λ row. is_outside user_message_cmp low.now high.now row.0) self.old.receipts.rows }
+        ensures count { result + length self.new.receipts.rows ≡ length self.old.receipts.rows }
+        ensures room { self.old.receipts.spare ≤ self.new.receipts.spare }
+        ensures messages { self.new.messages ≡ self.old.messages }
+    {
+        self.receipts.drop_between(low, high)
+    }
+
+    /// Keeps the receipts that pass the test.
+    pub fn receipts_keep<F: FnMut(&((UserId, MessageId), Receipt)) -> bool>(&mut self, test: F)
+        requires { F.IsAlwaysCallable test }
+        ensures rows { (p : (UserId × MessageId) × Receipt → Bool) → ComputesKey F.FnMut p test
+            → self.new.receipts.rows ≡ filter p self.old.receipts.rows }
+        ensures calls { IsFiltered (CalledAt F.FnMut) test self.old.receipts.rows self.new.receipts.rows }
+        ensures room { self.old.receipts.spare ≤ self.new.receipts.spare }
+        ensures messages { self.new.messages ≡ self.old.messages }
+    {
+        self.receipts.keep(test);
+    }
+}
+
+#[cfg(test)]
+mod tests;

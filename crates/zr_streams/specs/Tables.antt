@@ -1,0 +1,11 @@
+-- What contracts see of the table of streams.
+use Rattle.ev_rows.specs.Rows.{Table}
+use Rattle.ev_base.specs.declared.ids.StreamId.{StreamId}
+use Rattle.ev_base.specs.declared.ids.UserId.{UserId}
+use Rattle.zr_streams.specs.declared.rows.Stream.{Stream}
+use Rattle.zr_streams.specs.declared.rows.Subscription.{Subscription}
+
+-- the streams by their number, and the subscriptions by user and stream
+pub record StreamTables : Type 0 where
+  pub streams : Table StreamId Stream
+  pub subscriptions : Table (UserId × StreamId) Subscription
