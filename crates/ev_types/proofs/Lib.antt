@@ -1,0 +1,7 @@
+pub mod AudienceLemmas
+pub mod FeederLemmas
+pub mod FieldsSettle
+pub mod Samples
+pub mod SectionsSettle
+pub mod SettleLemmas
+pub mod WriteLemmas
