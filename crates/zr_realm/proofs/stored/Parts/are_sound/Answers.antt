@@ -1,0 +1,10 @@
+use Rattle.std.proofs.Common.{◌∙◌, sym}
+use Rattle.zr_realm.specs.Stored.{tables_in}
+use Rattle.zr_realm.proofs.SoundLemmas.{sound, tests_pass}
+use Rattle.zr_realm.proofs.stored.Parts.are_sound.Goals as goal
+
+pub returns : goal.returns
+returns c = (
+  λ yes. sound (tables_in c.args.self.now) c.args.sent c.tables_rise.ensures (sym c.pass_tests-passes.ensures ∙ yes),
+  λ it. c.pass_tests-passes.ensures ∙ tests_pass (tables_in c.args.self.now) c.args.sent c.tables_rise.ensures it,
+)

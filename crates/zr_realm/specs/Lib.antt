@@ -1,0 +1,10 @@
+pub mod Tables
+pub mod Visibility
+pub mod Commands
+pub mod Refusals
+pub mod Effects
+pub mod Checks
+pub mod Values
+pub mod Sound
+pub mod SoundTests
+pub mod Stored

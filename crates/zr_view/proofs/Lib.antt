@@ -1,0 +1,4 @@
+pub mod NestedLemmas
+pub mod SiftedLemmas
+pub mod TurnedLemmas
+pub mod ViewLemmas

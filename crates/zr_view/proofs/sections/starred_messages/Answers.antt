@@ -1,0 +1,14 @@
+use Rattle.std.proofs.Common.{◌≡◌, ◌∙◌, List, IfOk, subst, rules}
+use Rattle.ev_rows.specs.Rows.{sift}
+use Rattle.ev_base.specs.declared.ids.MessageId.{MessageId}
+use Rattle.zr_posts.specs.declared.rows.Message.{Message}
+use Rattle.zr_view.specs.RowViews.{starred_in}
+use Rattle.zr_view.proofs.ViewLemmas.{starred_are_sifted}
+use Rattle.zr_view.proofs.sections.starred_messages.Goals as goal
+
+-- each row is made of the row of its key
+pub returns : goal.returns
+returns c =
+    let rows_are : c.messages_rows-rows.result.now ≡ c.args.realm.now.state.tables.messages = c.messages_rows-rows.ensures.all ∙ c.posts.ensures.messages in
+    let shown = c.sifted.ensures (starred_in c.args.realm.now.state.tables c.args.user) (λ row answer called. rw (← called.shows) (search rules)) in
+    rw (starred_are_sifted c.args.realm.now.state.tables c.args.user) (subst (λ (rows : List (MessageId × Message)). IfOk c.sifted.result (λ shown. shown.rows ≡ sift (starred_in c.args.realm.now.state.tables c.args.user) rows)) rows_are shown)

@@ -1,0 +1,14 @@
+//! The sections of a user's view of a realm.
+#![tactic(auto)]
+
+mod fault;
+mod fetching;
+mod laws;
+mod sections;
+mod shown;
+mod sift;
+mod subscribers;
+
+pub use fault::FetchFault;
+pub use fetching::{fetch, fetch_all};
+pub use laws::views_rise;
