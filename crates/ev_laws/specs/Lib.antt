@@ -1,0 +1,5 @@
+pub mod Changes
+pub mod Comparable
+pub mod Compared
+pub mod Kept
+pub mod Laws
