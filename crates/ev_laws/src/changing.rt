@@ -91,6 +91,3 @@ fn push_messages(
     let gone = gained_keys(alloc, after.messages, before.messages)?;
     push_one_of(events, gone, |messages| Event::MessageGone(messages))
 }
-
-#[cfg(test)]
-mod tests;
