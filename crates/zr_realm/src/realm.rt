@@ -244,3 +244,6 @@ fn opening_row(alloc: Global) -> Result<RealmRow, NoMemory>
         _ => Err(NoMemory),
     }
 }
+
+#[cfg(test)]
+mod tests;
