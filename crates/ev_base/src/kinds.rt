@@ -78,24 +78,3 @@ impl ExactClone for Privacy {
 impl ExactClone for Flag {
     ghost exact = { λ _ _ same. same };
 }
-
-#[cfg(test)]
-mod tests {
-    use super::*;
-
-    #[test]
-    fn a_role_has_its_number(rt: HostRuntime) {
-        for (role, number) in [
-            (Role::Owner, 100),
-            (Role::Administrator, 200),
-            (Role::Moderator, 300),
-            (Role::Member, 400),
-            (Role::Guest, 600),
-        ] {
-            assert_eq!(rt; role.number(), number);
-            assert_eq!(rt; Role::from_number(number), Some(role));
-        }
-        assert_eq!(rt; Role::from_number(500), None);
-        role_numbers_read_back();
-    }
-}

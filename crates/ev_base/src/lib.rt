@@ -22,4 +22,4 @@ pub use listed::Listed;
 pub use orders::{code_compares_keys_in_their_order, keys_are_in_order};
 pub use place::Place;
 pub use plain_text::PlainText;
-pub use text::{Text, TextFault, TextKind};
+pub use text::{Text, TextFault, TextKind, texts_are_descriptions_or_contents};

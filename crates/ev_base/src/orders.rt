@@ -30,14 +30,3 @@ pub fn code_compares_keys_in_their_order()
     ensures stream_users { ⟦<(StreamId, UserId) as Ord>⟧.cmp ≡ stream_user_cmp }
     ensures reactions { ⟦<(MessageId, UserId, Text) as Ord>⟧.cmp ≡ reaction_cmp }
 {}
-
-#[cfg(test)]
-mod tests {
-    use super::*;
-
-    #[test]
-    fn the_laws_are_called() {
-        keys_are_in_order();
-        code_compares_keys_in_their_order();
-    }
-}

@@ -17,26 +17,3 @@ pub enum Place {
 impl ExactClone for Place {
     ghost exact = { Prim.search rules };
 }
-
-#[cfg(test)]
-mod tests {
-    use super::*;
-    use crate::text::TextKind;
-    use std::test::Fail;
-
-    #[test]
-    fn places_are_copied_and_compared(rt: HostRuntime) -> Result<(), Fail> {
-        let topic = Text::read(rt.alloc(), TextKind::Topic, "t")?;
-        let stream = Place::Stream {
-            stream: StreamId(2),
-            topic,
-        };
-        let recipients = Listed::from_vec(vec![in rt.alloc(); UserId(1), UserId(2)]?);
-        let direct = Place::Direct { recipients };
-        assert_eq!(rt; stream, stream.clone()?);
-        assert_eq!(rt; direct, direct.clone()?);
-        assert_ne!(rt; stream, direct);
-        assert!(rt; stream < direct);
-        Ok(())
-    }
-}

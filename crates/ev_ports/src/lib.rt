@@ -8,8 +8,6 @@ mod counts;
 mod memory;
 mod reading;
 mod standard;
-#[cfg(test)]
-mod tests;
 mod writing;
 
 pub use memory::{MemSink, MemSource};

@@ -235,6 +235,3 @@ impl<K: Ord + Drop, V: Drop> Keyed<K, V> {
         self.rows.retain(test);
     }
 }
-
-#[cfg(test)]
-mod tests;

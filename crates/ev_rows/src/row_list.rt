@@ -109,37 +109,3 @@ impl<K: Ord, V: PartialEq> PartialEq for RowList<K, V> {
         self.rows() == other.rows()
     }
 }
-
-#[cfg(test)]
-mod tests {
-    use super::*;
-    use crate::keyed::rows_rise;
-    use std::test::Fail;
-
-    fn copied<T: Clone>(value: &T) -> Result<T, AllocError> {
-        value.clone()
-    }
-
-    fn are_equal<T: PartialEq>(one: &T, other: &T) -> bool {
-        one == other
-    }
-
-    #[test]
-    fn lists_are_equal_where_their_rows_are(rt: HostRuntime) -> Result<(), Fail> {
-        let rows = vec![in rt.alloc(); (1u32, 'a'), (2, 'b')]?;
-        assert!(rt; rows_rise(&rows));
-        let list = RowList::from_vec(rows);
-        assert_eq!(rt; list.len(), 2);
-        assert!(rt; !list.is_empty());
-        assert_eq!(rt; list.get(&2).copied(), Some('b'));
-        assert_eq!(rt; list.rows(), [(1, 'a'), (2, 'b')].as_slice());
-
-        let mut table: Keyed<u32, char> = copied(&list)?.into();
-        assert!(rt; are_equal(&list, &copied(&list)?));
-        table.drop_key(&1);
-        let other = RowList::from(table);
-        assert!(rt; !are_equal(&list, &other));
-        assert_eq!(rt; other.into_vec().as_slice(), [(2, 'b')].as_slice());
-        Ok(())
-    }
-}

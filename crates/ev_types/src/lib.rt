@@ -9,8 +9,6 @@ mod notice;
 mod rows;
 mod section;
 mod state;
-#[cfg(test)]
-mod tests;
 
 pub use event::{
     Event, FlagChange, FullMessage, Item, RealmField, StreamField, SubscriptionField, UserField,

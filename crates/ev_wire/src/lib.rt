@@ -1,8 +1,6 @@
 //! The bodies that clients are answered, as JSON texts.
 #![tactic(auto)]
 
-#[cfg(test)]
-mod tests;
 mod values;
 mod writing;
 

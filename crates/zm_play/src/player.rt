@@ -62,6 +62,3 @@ impl Player {
         }
     }
 }
-
-#[cfg(test)]
-mod tests;

@@ -6,8 +6,6 @@ mod laws;
 mod replay;
 mod runner;
 mod status;
-#[cfg(test)]
-mod tests;
 
 pub use replay::{are_the_word, run};
 pub use status::Status;

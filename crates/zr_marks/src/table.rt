@@ -117,6 +117,3 @@ impl Marks {
         self.reactions.keep(test);
     }
 }
-
-#[cfg(test)]
-mod tests;

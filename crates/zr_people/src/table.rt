@@ -142,6 +142,3 @@ impl Users {
         self.users.drop_between(low, high)
     }
 }
-
-#[cfg(test)]
-mod tests;

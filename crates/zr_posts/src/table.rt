@@ -215,6 +215,3 @@ impl Posts {
         self.receipts.keep(test);
     }
 }
-
-#[cfg(test)]
-mod tests;

@@ -244,6 +244,3 @@ fn opening_row(alloc: Global) -> Result<RealmRow, NoMemory>
         _ => Err(NoMemory),
     }
 }
-
-#[cfg(test)]
-mod tests;

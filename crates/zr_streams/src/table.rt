@@ -195,6 +195,3 @@ impl Streams {
         self.subscriptions.drop_between(low, high)
     }
 }
-
-#[cfg(test)]
-mod tests;

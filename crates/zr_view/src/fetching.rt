@@ -91,6 +91,3 @@ fn whole_state(alloc: Global, realm: &Realm, user: UserId) -> Result<State, NoMe
         unread_messages: Some(unread_messages(alloc, realm, user)?),
     })
 }
-
-#[cfg(test)]
-mod tests;

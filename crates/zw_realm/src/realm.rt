@@ -277,6 +277,3 @@ fn copied(alloc: Global, notice: &Notice) -> Result<Notice, NoMemory>
         events: Listed::from_vec(events),
     })
 }
-
-#[cfg(test)]
-mod tests;

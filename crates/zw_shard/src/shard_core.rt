@@ -50,6 +50,3 @@ impl ShardCore {
         self.shard.answer(alloc, input)
     }
 }
-
-#[cfg(test)]
-mod tests;

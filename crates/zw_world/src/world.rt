@@ -99,6 +99,3 @@ impl World {
         self.shards[shard as usize].step(alloc, input)
     }
 }
-
-#[cfg(test)]
-mod tests;

@@ -1,0 +1,13 @@
+//! Tests of rows that rise by key, of ids and texts, and of small lists.
+#![tactic(auto)]
+
+#[cfg(test)]
+mod ids;
+#[cfg(test)]
+mod lists;
+#[cfg(test)]
+mod rows;
+#[cfg(test)]
+mod same;
+#[cfg(test)]
+mod texts;

@@ -1,0 +1,9 @@
+//! Tests of the realm over the tables, and of what its users fetch.
+#![tactic(auto)]
+
+#[cfg(test)]
+mod realm;
+#[cfg(test)]
+mod sample_realm;
+#[cfg(test)]
+mod view;

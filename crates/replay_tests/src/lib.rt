@@ -1,0 +1,11 @@
+//! Tests of a replay: its ports, the lines of a script, and the whole run.
+#![tactic(auto)]
+
+#[cfg(test)]
+mod checks;
+#[cfg(test)]
+mod ports;
+#[cfg(test)]
+mod run;
+#[cfg(test)]
+mod script;

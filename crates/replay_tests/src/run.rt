@@ -1,0 +1,319 @@
+//! The run of a script, from the bytes that are read to the bytes that are written.
+
+use crate::checks::check_text;
+use ev_ports::{MemSink, MemSource};
+use std::alloc::{AllocError, Global};
+use std::process::Abort;
+use std::str;
+use std::test::Fail;
+use zm_run::{Status, run};
+
+const ADD_ANN: &str = "user_add 0 ann@x.org Ann 100 k1\n";
+
+const POLLS: &str = "user_add 0 ann@x.org Ann 100 k1
+register 1 * realm_user
+poll 1 1.0 0
+poll 1 1.0 -1
+poll 1 1.0 1
+poll 1 1.1 -1
+";
+
+const POLLS_TOLD: &str = r#"committed 1 1
+finished 1 {"last_event_id":0,"msg":"","queue_id":"00000001-0000-0000-0000-000000000000","realm_users":[{"email":"ann@x.org","full_name":"Ann","is_active":true,"role":100,"user_id":1}],"result":"success","zulip_feature_level":1}
+empty 1
+pruned 0
+not_sent 0
+bad_queue
+"#;
+
+const REFUSALS: &str = "user_update 1 1 Ann
+register 1 * realm_user
+user_add 0 ann@x.org Ann 100 k1
+user_add 0 bob@x.org Bob 100 k2
+user_update 1 1 Ann
+register 1 * realm_user
+";
+
+const REFUSALS_TOLD: &str = r#"refused 1 ActorUnknown
+fetch_refused
+committed 1 1
+refused 1 ActorUnknown
+refused 7 AlreadySo
+finished 1 {"last_event_id":0,"msg":"","queue_id":"00000001-0000-0001-0000-000000000000","realm_users":[{"email":"ann@x.org","full_name":"Ann","is_active":true,"role":100,"user_id":1}],"result":"success","zulip_feature_level":1}
+"#;
+
+/// A client registers, and polls once the rename was pushed.
+const FOLLOWED: &str = "user_add 0 ann@x.org Ann 100 k1
+notice
+push 0
+register 1 * realm_user
+user_update 1 1 Anna
+notice
+push 0
+poll 1 1.0 -1
+poll 1 1.0 0
+poll 1 1.0 -1
+";
+
+const FOLLOWED_TOLD: &str = r#"committed 1 1
+noticed 1
+pushed 1
+finished 1 {"last_event_id":-1,"msg":"","queue_id":"00000001-0000-0000-0000-000000000000","realm_users":[{"email":"ann@x.org","full_name":"Ann","is_active":true,"role":100,"user_id":1}],"result":"success","zulip_feature_level":1}
+committed 2
+noticed 2
+pushed 2
+answer 2 {"events":[{"id":0,"op":"update","person":{"full_name":"Anna","user_id":1},"type":"realm_user"}],"msg":"","queue_id":"00000001-0000-0000-0000-000000000000","result":"success"}
+empty 2
+pruned 0
+"#;
+
+/// A client registers, and polls before the rename was pushed.
+const POLLED_EARLY: &str = "user_add 0 ann@x.org Ann 100 k1
+notice
+push 0
+register 1 * realm_user
+user_update 1 1 Anna
+poll 1 1.0 -1
+";
+
+const POLLED_EARLY_TOLD: &str = r#"committed 1 1
+noticed 1
+pushed 1
+finished 1 {"last_event_id":-1,"msg":"","queue_id":"00000001-0000-0000-0000-000000000000","realm_users":[{"email":"ann@x.org","full_name":"Ann","is_active":true,"role":100,"user_id":1}],"result":"success","zulip_feature_level":1}
+committed 2
+empty 1
+"#;
+
+/// The longest line that isn't too long.
+const LONGEST: usize = 65_536;
+
+/// A source of these bytes, whose reads with these numbers, from 1, fail.
+fn source_of(alloc: Global, script: &[u8], reads: &[u64]) -> Result<MemSource, AllocError> {
+    Ok(MemSource::new(script.to_vec(alloc)?, reads.to_vec(alloc)?))
+}
+
+/// A sink whose writes with these numbers, from 1, fail.
+fn failing_sink(alloc: Global, writes: &[u64]) -> Result<MemSink, AllocError> {
+    MemSink::new(alloc, 4_096, writes.to_vec(alloc)?)
+}
+
+/// How a run of `replay` ends.
+fn run_replay(
+    alloc: Global,
+    source: &mut MemSource,
+    sink: &mut MemSink,
+) -> Result<Status, AllocError> {
+    let word = String::from_str(alloc, "replay")?;
+    Ok(run(alloc, &[word], source, sink))
+}
+
+/// What was written, as a text.
+fn text_of(alloc: Global, sink: &MemSink) -> Result<String, Fail> {
+    Ok(String::from_str(alloc, str::from_utf8(sink.bytes())?)?)
+}
+
+/// How a run of `replay` over a script ends, and what it writes. The reads and the writes with these
+/// numbers fail.
+fn replay_with_faults(
+    alloc: Global,
+    script: &[u8],
+    reads: &[u64],
+    writes: &[u64],
+) -> Result<(Status, String), Fail> {
+    let mut source = source_of(alloc, script, reads)?;
+    let mut sink = failing_sink(alloc, writes)?;
+    let status = run_replay(alloc, &mut source, &mut sink)?;
+    Ok((status, text_of(alloc, &sink)?))
+}
+
+/// How a run of `replay` over a script ends, and what it writes, where no read or write fails.
+fn replay(alloc: Global, script: &str) -> Result<(Status, String), Fail> {
+    replay_with_faults(alloc, script.as_bytes(), &[], &[])
+}
+
+/// Checks how a run ended, and what it wrote.
+fn check(rt: &impl Abort, replayed: (Status, String), status: Status, written: &str) {
+    assert_eq!(rt; replayed.0, status);
+    check_text(rt, replayed.1.as_bytes(), written);
+}
+
+#[test]
+fn an_empty_script_prints_nothing(rt: HostRuntime) -> Result<(), Fail> {
+    check(&rt, replay(rt.alloc(), "")?, Status::Done, "");
+    Ok(())
+}
+
+#[test]
+fn comments_and_empty_lines_print_nothing(rt: HostRuntime) -> Result<(), Fail> {
+    check(
+        &rt,
+        replay(rt.alloc(), "# a comment\n\n# another")?,
+        Status::Done,
+        "",
+    );
+    Ok(())
+}
+
+#[test]
+fn a_last_line_may_lack_its_feed(rt: HostRuntime) -> Result<(), Fail> {
+    check(
+        &rt,
+        replay(rt.alloc(), "user_add 0 ann@x.org Ann 100 k1")?,
+        Status::Done,
+        "committed 1 1\n",
+    );
+    Ok(())
+}
+
+#[test]
+fn a_line_past_the_grammar_ends_a_run(rt: HostRuntime) -> Result<(), Fail> {
+    let script = "user_add 0 ann@x.org Ann 100 k1\npush 0 5\nnotice\n";
+    check(
+        &rt,
+        replay(rt.alloc(), script)?,
+        Status::BadLine { line: 2 },
+        "committed 1 1\n",
+    );
+    Ok(())
+}
+
+#[test]
+fn each_answer_of_a_poll_is_told(rt: HostRuntime) -> Result<(), Fail> {
+    check(&rt, replay(rt.alloc(), POLLS)?, Status::Done, POLLS_TOLD);
+    Ok(())
+}
+
+#[test]
+fn refusals_are_told(rt: HostRuntime) -> Result<(), Fail> {
+    check(
+        &rt,
+        replay(rt.alloc(), REFUSALS)?,
+        Status::Done,
+        REFUSALS_TOLD,
+    );
+    Ok(())
+}
+
+#[test]
+fn a_client_follows_a_rename(rt: HostRuntime) -> Result<(), Fail> {
+    check(
+        &rt,
+        replay(rt.alloc(), FOLLOWED)?,
+        Status::Done,
+        FOLLOWED_TOLD,
+    );
+    Ok(())
+}
+
+#[test]
+fn a_poll_before_the_push_is_empty(rt: HostRuntime) -> Result<(), Fail> {
+    check(
+        &rt,
+        replay(rt.alloc(), POLLED_EARLY)?,
+        Status::Done,
+        POLLED_EARLY_TOLD,
+    );
+    Ok(())
+}
+
+/// How a run over these words ends, and how many bytes of a script it leaves unread.
+fn run_over(alloc: Global, words: &[String]) -> Result<(Status, usize), Fail> {
+    let mut source = source_of(alloc, ADD_ANN.as_bytes(), &[])?;
+    let mut sink = failing_sink(alloc, &[])?;
+    let status = run(alloc, words, &mut source, &mut sink);
+    Ok((status, source.left().len()))
+}
+
+#[test]
+fn other_words_are_refused(rt: HostRuntime) -> Result<(), Fail> {
+    let alloc = rt.alloc();
+    let word = String::from_str(alloc, "replay")?;
+    let other = String::from_str(alloc, "x")?;
+    assert_eq!(rt;
+        run_over(alloc, &[word, other])?,
+        (Status::Usage, ADD_ANN.len())
+    );
+    Ok(())
+}
+
+/// Appends a comment of so many bytes, and its feed.
+fn push_comment(script: &mut Vec<u8>, length: usize) -> Result<(), AllocError> {
+    script.push(b'#')?;
+    for _ in 1..length {
+        script.push(b'x')?;
+    }
+    script.push(b'\n')?;
+    Ok(())
+}
+
+/// A line that adds a user, and a comment of so many bytes.
+fn script_with_comment(alloc: Global, length: usize) -> Result<Vec<u8>, AllocError> {
+    let mut script = ADD_ANN.as_bytes().to_vec(alloc)?;
+    push_comment(&mut script, length)?;
+    Ok(script)
+}
+
+#[test]
+fn a_line_may_have_65_536_bytes(rt: HostRuntime) -> Result<(), Fail> {
+    let script = script_with_comment(rt.alloc(), LONGEST)?;
+    check(
+        &rt,
+        replay_with_faults(rt.alloc(), &script, &[], &[])?,
+        Status::Done,
+        "committed 1 1\n",
+    );
+    Ok(())
+}
+
+#[test]
+fn a_longer_line_ends_a_run(rt: HostRuntime) -> Result<(), Fail> {
+    let script = script_with_comment(rt.alloc(), LONGEST + 1)?;
+    check(
+        &rt,
+        replay_with_faults(rt.alloc(), &script, &[], &[])?,
+        Status::BadLine { line: 2 },
+        "committed 1 1\n",
+    );
+    Ok(())
+}
+
+/// Appends two comments that fill a read, and a line that renames the first user.
+fn push_rename(script: &mut Vec<u8>, line: &str) -> Result<(), AllocError> {
+    push_comment(script, LONGEST)?;
+    push_comment(script, LONGEST)?;
+    script.extend_from_slice(line.as_bytes())
+}
+
+/// A script of several reads: each but the first has a rename.
+fn long_script(alloc: Global) -> Result<Vec<u8>, AllocError> {
+    let mut script = ADD_ANN.as_bytes().to_vec(alloc)?;
+    push_rename(&mut script, "user_update 1 1 Anna\n")?;
+    push_rename(&mut script, "user_update 1 1 Annie\n")?;
+    push_rename(&mut script, "user_update 1 1 Ann\n")?;
+    Ok(script)
+}
+
+#[test]
+fn output_before_a_failing_write_stands(rt: HostRuntime) -> Result<(), Fail> {
+    let script = long_script(rt.alloc())?;
+    let replayed = replay_with_faults(rt.alloc(), &script, &[], &[3])?;
+    check(
+        &rt,
+        replayed,
+        Status::WriteFault,
+        "committed 1 1\ncommitted 2\n",
+    );
+    Ok(())
+}
+
+#[test]
+fn output_before_a_failing_read_stands(rt: HostRuntime) -> Result<(), Fail> {
+    let script = long_script(rt.alloc())?;
+    check(
+        &rt,
+        replay_with_faults(rt.alloc(), &script, &[2], &[])?,
+        Status::ReadFault,
+        "committed 1 1\n",
+    );
+    Ok(())
+}

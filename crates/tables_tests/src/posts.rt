@@ -1,0 +1,202 @@
+//! The table of messages and receipts.
+
+use crate::samples::{same, text_is};
+use ev_base::{MessageId, Place, StreamId, Text, TextFault, TextKind, UserId, rows_rise};
+use std::alloc::Global;
+use std::mem::size_of;
+use std::test::Fail;
+use zr_posts::{Message, Posts, Receipt};
+
+const _: () = prove!(size_of::<((UserId, MessageId), Receipt)>() <= 16);
+
+const UNREAD: Receipt = Receipt {
+    read: false,
+    starred: false,
+    collapsed: false,
+};
+
+const STARRED: Receipt = Receipt {
+    read: false,
+    starred: true,
+    collapsed: false,
+};
+
+fn lunch(alloc: Global) -> Result<Place, TextFault> {
+    Ok(Place::Stream {
+        stream: StreamId(1),
+        topic: Text::read(alloc, TextKind::Topic, "lunch")?,
+    })
+}
+
+fn message(alloc: Global, content: &str) -> Result<Message, TextFault> {
+    Ok(Message {
+        sender: UserId(1),
+        place: lunch(alloc)?,
+        content: Text::read(alloc, TextKind::Content, content)?,
+        timestamp: 100,
+    })
+}
+
+// Writes a message's row, with room made for it, and answers the time of the row before.
+fn put(table: &mut Posts, alloc: Global, number: u32, content: &str) -> Result<Option<u64>, Fail> {
+    let row = message(alloc, content)?;
+    table.messages_reserve(1)?;
+    let before = table.messages_put(MessageId(number), row);
+    Ok(before.map(|row| row.timestamp))
+}
+
+// Messages 1 and 2.
+fn two_messages(alloc: Global) -> Result<Posts, Fail> {
+    let mut table = Posts::new(alloc);
+    put(&mut table, alloc, 2, "two")?;
+    put(&mut table, alloc, 1, "one")?;
+    Ok(table)
+}
+
+fn says(table: &Posts, number: u32, content: &str) -> Option<bool> {
+    let row = table.messages_get(&MessageId(number))?;
+    Some(text_is(&row.content, content))
+}
+
+fn set_time(table: &mut Posts, number: u32, timestamp: u64) {
+    if let Some(row) = table.messages_get_mut(&MessageId(number)) {
+        row.timestamp = timestamp;
+    }
+}
+
+// Puts a row over one whose time was changed: the time of the row before, and whether each of three
+// messages has the new content then.
+fn put_over_two(alloc: Global) -> Result<(Option<u64>, [Option<bool>; 3]), Fail> {
+    let mut table = two_messages(alloc)?;
+    set_time(&mut table, 2, 200);
+    let before = put(&mut table, alloc, 2, "new")?;
+    let new = [
+        says(&table, 1, "new"),
+        says(&table, 2, "new"),
+        says(&table, 3, "new"),
+    ];
+    Ok((before, new))
+}
+
+#[test]
+fn messages_are_read_changed_and_replaced(rt: HostRuntime) -> Result<(), Fail> {
+    let after = (Some(200), [Some(false), Some(true), None]);
+    same(&rt, put_over_two(rt.alloc())?, after);
+    Ok(())
+}
+
+// Drops message 2, and then all: how many there were, whether it was there, how many went, and how
+// many stay.
+fn dropped(alloc: Global) -> Result<(usize, bool, u64, usize), Fail> {
+    let mut table = two_messages(alloc)?;
+    let before = table.messages_rows().len();
+    let two = table.messages_drop_key(&MessageId(2)).is_some();
+    let more = table.messages_drop_between(&MessageId(1), &MessageId(9));
+    Ok((before, two, more, table.messages_rows().len()))
+}
+
+#[test]
+fn messages_are_dropped(rt: HostRuntime) -> Result<(), Fail> {
+    same(&rt, dropped(rt.alloc())?, (2, true, 1, 0));
+    Ok(())
+}
+
+fn receipt_key(user: u32, message: u32) -> (UserId, MessageId) {
+    (UserId(user), MessageId(message))
+}
+
+// Writes a receipt, with room made for it, and answers the one before.
+fn put_receipt(
+    table: &mut Posts,
+    key: (UserId, MessageId),
+    row: Receipt,
+) -> Result<Option<Receipt>, Fail> {
+    table.receipts_reserve(1)?;
+    Ok(table.receipts_put(key, row))
+}
+
+// Puts these receipts, whose keys have to rise, with room made for them.
+fn merge(
+    table: &mut Posts,
+    alloc: Global,
+    rows: &[((UserId, MessageId), Receipt)],
+) -> Result<(), Fail> {
+    let rows = rows.to_vec(alloc)?;
+    if !rows_rise(&rows) {
+        return Err(Fail::from("the keys don't rise"));
+    }
+    table.receipts_reserve(rows.len())?;
+    table.receipts_merge(rows);
+    Ok(())
+}
+
+// Users 1, 2 and 3 got message 7, and user 2 also message 1.
+fn four_receipts(alloc: Global) -> Result<Posts, Fail> {
+    let mut table = Posts::new(alloc);
+    put_receipt(&mut table, receipt_key(2, 1), UNREAD)?;
+    let rows = [
+        (receipt_key(1, 7), UNREAD),
+        (receipt_key(2, 7), STARRED),
+        (receipt_key(3, 7), UNREAD),
+    ];
+    merge(&mut table, alloc, &rows)?;
+    Ok(table)
+}
+
+#[test]
+fn new_receipts_go_among_the_old_ones(rt: HostRuntime) -> Result<(), Fail> {
+    let all = [
+        (receipt_key(1, 7), UNREAD),
+        (receipt_key(2, 1), UNREAD),
+        (receipt_key(2, 7), STARRED),
+        (receipt_key(3, 7), UNREAD),
+    ];
+    same(
+        &rt,
+        four_receipts(rt.alloc())?.receipts_rows(),
+        all.as_slice(),
+    );
+    Ok(())
+}
+
+fn receipt_of(table: &Posts, user: u32, message: u32) -> Option<Receipt> {
+    table.receipts_get(&receipt_key(user, message)).copied()
+}
+
+fn star(table: &mut Posts, user: u32, message: u32) {
+    if let Some(row) = table.receipts_get_mut(&receipt_key(user, message)) {
+        row.starred = true;
+    }
+}
+
+// Stars a receipt, and puts a row over it: the row before, the row then, and one that isn't there.
+fn put_over_starred(alloc: Global) -> Result<[Option<Receipt>; 3], Fail> {
+    let mut table = four_receipts(alloc)?;
+    star(&mut table, 1, 7);
+    let before = put_receipt(&mut table, receipt_key(1, 7), UNREAD)?;
+    Ok([before, receipt_of(&table, 1, 7), receipt_of(&table, 3, 1)])
+}
+
+#[test]
+fn a_receipt_is_changed_and_replaced(rt: HostRuntime) -> Result<(), Fail> {
+    let receipts = [Some(STARRED), Some(UNREAD), None];
+    same(&rt, put_over_starred(rt.alloc())?, receipts);
+    Ok(())
+}
+
+// Keeps the receipts of message 7, drops one, and then all: how many there were, the one that was
+// dropped, how many more went, and how many stay.
+fn receipts_dropped(alloc: Global) -> Result<(usize, Option<Receipt>, u64, usize), Fail> {
+    let mut table = four_receipts(alloc)?;
+    table.receipts_keep(|row| row.0.1.0 == 7);
+    let kept = table.receipts_rows().len();
+    let one = table.receipts_drop_key(&receipt_key(2, 7));
+    let more = table.receipts_drop_between(&receipt_key(1, 7), &receipt_key(3, 7));
+    Ok((kept, one, more, table.receipts_rows().len()))
+}
+
+#[test]
+fn receipts_are_kept_and_dropped(rt: HostRuntime) -> Result<(), Fail> {
+    same(&rt, receipts_dropped(rt.alloc())?, (3, Some(STARRED), 2, 0));
+    Ok(())
+}
