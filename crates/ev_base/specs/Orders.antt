@@ -36,7 +36,7 @@ pair_cmp first second a b = ordering_then (first a.0 b.0) (second a.1 b.1)
 abbrev pub triple_cmp : {A B C : Type 0} → (A → A → Ordering) → (B → B → Ordering) → (C → C → Ordering)
     → A × B × C → A × B × C → Ordering
 triple_cmp first second third a b =
-    ordering_then (first a.0 b.0) (ordering_then (second a.1 b.1) (third a.2 b.2))
+    ordering_then (ordering_then (first a.0 b.0) (second a.1 b.1)) (third a.2 b.2)
 
 -- a user's streams
 abbrev pub user_stream_cmp : UserId × StreamId → UserId × StreamId → Ordering
@@ -88,12 +88,12 @@ pair_order {A} {B} {first} {second} a b = record {
 -- and so are triples
 pub triple_order : {A B C : Type 0} {first : A → A → Ordering} {second : B → B → Ordering} {third : C → C → Ordering}
     → KeyOrder first → KeyOrder second → KeyOrder third → KeyOrder (triple_cmp first second third)
-triple_order {A} {B} {C} {first} {second} {third} a b c = record {
-  total = then_total (on_total (λ (key : A × B × C). key.0) a.total)
-      (then_total (on_total (λ (key : A × B × C). key.1) b.total) (on_total (λ (key : A × B × C). key.2) c.total));
-  exact = λ x y same. ap (λ (key : A × (B × C)). (key.0, key.1.0, key.1.1))
-      (exact_pairs first (pair_cmp second third) a.exact (exact_pairs second third b.exact c.exact) (x.0, (x.1, x.2)) (y.0, (y.1, y.2)) same);
-}
+triple_order {A} {B} {C} {first} {second} {third} a b c =
+    let nested : KeyOrder (pair_cmp (pair_cmp first second) third) = pair_order (pair_order a b) c in
+    record {
+      total = on_total (λ (key : A × B × C). ((key.0, key.1), key.2)) nested.total;
+      exact = λ x y same. ap (λ (key : (A × B) × C). (key.0.0, key.0.1, key.1)) (nested.exact ((x.0, x.1), x.2) ((y.0, y.1), y.2) same);
+    }
 
 pub user_stream_order : KeyOrder user_stream_cmp
 user_stream_order = pair_order user_order stream_order

@@ -1,6 +1,5 @@
 -- What is told of new messages.
 use Rattle.std.proofs.Common.{◌≡◌, ◌<◌, ◌≤◌, List, [], ◌∷◌, ◌++◌, length, refl, arith}
-use Rattle.ev_types.specs.declared.event.Event.{Event}
 use Rattle.ev_types.specs.declared.event.Event.TheVariants.{MessageNew, MessagesRestored}
 use Rattle.ev_types.specs.declared.event.FullMessage.{FullMessage}
 use Rattle.ev_laws.specs.Changes.{arrivals}

@@ -15,4 +15,3 @@ mod Samples
 mod Loops
 mod Moving
 mod Ranges
-mod ReactionKeys

@@ -1,9 +1,10 @@
 -- What changed leads from one view to the other in the sections of starred and of unread messages.
-use Rattle.std.proofs.Common.{◌≡◌, ℕ, Bool, true, false, not, cond, ◌&&◌, List, [], ◌∷◌, ◌++◌, map, flat_map, filter, fold, Option, None, Some, option_map, option_and_then, sym, ap, refl, ◌∙◌, append-nil}
+use Rattle.std.proofs.Common.{◌≡◌, Bool, true, false, not, cond, List, [], ◌∷◌, map, flat_map, filter, fold, Option, None, Some, option_map, option_and_then, sym, ap, refl, ◌∙◌, append-nil}
 use Rattle.std.specs.Option.{option_map_or}
 use Rattle.std.specs.BTreeMap.{is_at}
 use Rattle.std.proofs.lemmas.List.Folds.{flat_map-map}
-use Rattle.ev_rows.specs.Rows.{RowsRise, row_at, gained, kept, lost, fresh, both_of, keys_of, one_of, only_if, sift}
+use Rattle.ev_rows.specs.Rows.{RowsRise, row_at, gained, kept, lost, fresh, both_of, keys_of, one_of, only_if}
+use Rattle.ev_rows.proofs.RowFolds.{fold-flat_map_at, fold-each}
 use Rattle.ev_rows.proofs.RiseLemmas.{rise-filter}
 use Rattle.ev_rows.proofs.RowLemmas.{row_at-sift, at_itself}
 use Rattle.ev_rows.proofs.ChangeLemmas.{row_at-gained, row_at-kept, rise-gained, rise-kept}
@@ -14,18 +15,16 @@ use Rattle.ev_base.specs.declared.kinds.Flag.TheVariants as flag
 use Rattle.ev_base.specs.declared.place.Place.{Place}
 use Rattle.ev_base.specs.declared.place.Place.TheVariants as place
 use Rattle.ev_types.specs.declared.rows.ShownMessage.{ShownMessage}
-use Rattle.ev_types.specs.declared.event.FullMessage.{FullMessage}
 use Rattle.ev_types.specs.declared.event.Event.{Event}
-use Rattle.ev_types.specs.declared.event.Event.TheVariants.{MessageNew, MessagesRestored, MessageMoved, Flags, MessageGone}
+use Rattle.ev_types.specs.declared.event.Event.TheVariants.{MessageMoved, Flags, MessageGone}
 use Rattle.ev_types.specs.Sections.{Sections, ReactionKey}
-use Rattle.ev_types.specs.Writes.{Write, put, patch, drop_row, Rules, cell_after, cell_after_write}
+use Rattle.ev_types.specs.Writes.{Write, put, drop_row, Rules, cell_after, cell_after_write}
 use Rattle.ev_types.specs.EventWrites.{starred_rules, starred_writes, starred_of, unread_rules, unread_writes, unread_of}
 use Rattle.ev_types.specs.Applying.{rows_applied}
-use Rattle.ev_laws.specs.Changes.{full_message, arrivals, KeptMessage, StreamPlace, moved_to, move_events, edits, turned, details_of, flag_change, flag_event, flag_events, reaction_events, changes_between}
+use Rattle.ev_laws.specs.Changes.{full_message, arrivals, KeptMessage, StreamPlace, moved_to, move_events, edits, turned, flag_change, flag_event, flag_events, reaction_events, changes_between}
 use Rattle.ev_laws.specs.Comparable.{Comparable}
-use Rattle.ev_laws.proofs.Quiet.{Quiet}
 use Rattle.ev_laws.proofs.Groups.{quiet_people, quiet_moves, quiet_edits, quiet_flag, quiet_reactions, messages_alone}
-use Rattle.ev_laws.proofs.Cells.{over, without, cell_step, rows_lead, cell-puts, cell-drops, fold-one_of, fold-flat_map_at, fold-each}
+use Rattle.ev_laws.proofs.Cells.{without, cell_step, rows_lead, cell-drops, fold-one_of}
 use Rattle.ev_laws.proofs.Moves.{by_ids, move_events_at, place_told}
 use Rattle.ev_laws.proofs.MessagesLead.{arrivals_act, fold-message_events, fold-flag_events, where_turned, turned_at, flag_told}
 

@@ -4,6 +4,7 @@ use Rattle.std.specs.Option.{option_map_or}
 use Rattle.std.specs.BTreeMap.{is_at}
 use Rattle.std.proofs.lemmas.List.Sums.{fold-append}
 use Rattle.ev_rows.specs.Rows.{RowsRise, row_at, gained, kept, lost, fresh, both_of, keys_of, one_of, only_if}
+use Rattle.ev_rows.proofs.RowFolds.{fold-flat_map_at, fold-each}
 use Rattle.ev_rows.proofs.RiseLemmas.{rise-filter}
 use Rattle.ev_rows.proofs.RowLemmas.{row_at-filter}
 use Rattle.ev_rows.proofs.ChangeLemmas.{row_at-gained, row_at-kept, rise-gained, rise-kept}
@@ -13,20 +14,19 @@ use Rattle.ev_base.specs.declared.kinds.Flag.{Flag}
 use Rattle.ev_base.specs.declared.kinds.Flag.TheVariants as flag
 use Rattle.ev_base.specs.declared.place.Place.{Place}
 use Rattle.ev_base.specs.declared.place.Place.TheVariants as place
-use Rattle.ev_types.specs.declared.rows.MessageFlags.{MessageFlags}
 use Rattle.ev_types.specs.declared.rows.ShownMessage.{ShownMessage}
 use Rattle.ev_types.specs.declared.event.FullMessage.{FullMessage}
 use Rattle.ev_types.specs.declared.event.Event.{Event}
-use Rattle.ev_types.specs.declared.event.Event.TheVariants.{MessageNew, MessagesRestored, MessageMoved, MessageEdited, Flags, MessageGone}
+use Rattle.ev_types.specs.declared.event.Event.TheVariants.{MessageNew, MessagesRestored, MessageMoved, MessageEdited, MessageGone}
 use Rattle.ev_types.specs.Sections.{Sections, ReactionKey}
 use Rattle.ev_types.specs.Writes.{put, patch, drop_row, cell_after, cell_after_write}
-use Rattle.ev_types.specs.EventWrites.{message_rules, message_writes, message_with, flags_with, to_place, to_content, to_flag}
+use Rattle.ev_types.specs.EventWrites.{message_rules, message_writes, message_with, to_place, to_content, to_flag}
 use Rattle.ev_types.specs.Applying.{rows_applied}
-use Rattle.ev_laws.specs.Changes.{unless, same_bool, full_message, arrivals, KeptMessage, StreamPlace, moved_to, moves_of, move_events, edits, flag_in, turned, details_of, flag_change, flag_event, flag_events, reaction_events, message_events, changes_between}
+use Rattle.ev_laws.specs.Changes.{same_bool, full_message, arrivals, KeptMessage, StreamPlace, moved_to, move_events, edits, flag_in, turned, flag_change, flag_event, flag_events, reaction_events, message_events, changes_between}
 use Rattle.ev_laws.specs.Comparable.{Comparable, SameMessage}
-use Rattle.ev_laws.proofs.Quiet.{Quiet, skip_back, quiet_unless}
+use Rattle.ev_laws.proofs.Quiet.{quiet_unless}
 use Rattle.ev_laws.proofs.Groups.{quiet_people, quiet_reactions, messages_alone}
-use Rattle.ev_laws.proofs.Cells.{over, without, cell_step, rows_lead, cell-puts, cell-drops, cell-unless, fold-one_of, fold-flat_map_at, fold-each}
+use Rattle.ev_laws.proofs.Cells.{over, without, cell_step, rows_lead, cell-puts, cell-drops, cell-unless, fold-one_of}
 use Rattle.ev_laws.proofs.Moves.{by_ids, move_events_at, place_told}
 use Rattle.ev_laws.proofs.Tests.{texts_same}
 

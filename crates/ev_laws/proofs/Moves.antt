@@ -1,5 +1,5 @@
 -- What the moves of messages do to the cell of one message, whichever section it is in.
-use Rattle.std.proofs.Common.{◌≡◌, ℕ, Bool, true, false, cond, ◌&&◌, ◌==◌, bytes_eq, List, [], ◌∷◌, ◌++◌, map, fold, Less, Equal, Greater, Ordering, Option, None, Some, option_map, sym, ap, refl, ◌∙◌, true≢false}
+use Rattle.std.proofs.Common.{◌≡◌, Bool, true, false, cond, ◌&&◌, ◌==◌, bytes_eq, List, [], ◌∷◌, ◌++◌, map, fold, Less, Equal, Greater, Ordering, Option, None, Some, sym, ap, refl, ◌∙◌}
 use Rattle.std.specs.Option.{option_map_or, unwrap_or}
 use Rattle.std.specs.Ordering.{match_ordering, is_eq}
 use Rattle.std.specs.BTreeMap.{insert_entry, is_at}
@@ -11,7 +11,6 @@ use Rattle.ev_rows.proofs.PlaceLemmas.{lookup-below}
 use Rattle.ev_rows.proofs.RiseLemmas.{IsBelow-further, rise-nil, rise_head, rise_tail, rise-insert_entry}
 use Rattle.ev_rows.proofs.RowLemmas.{at_same, row_at_below}
 use Rattle.ev_base.specs.Orders.{message_cmp, message_order, stream_order, text_order, pair_order}
-use Rattle.ev_base.specs.declared.ids.StreamId.{StreamId}
 use Rattle.ev_base.specs.declared.ids.MessageId.{MessageId}
 use Rattle.ev_base.specs.declared.place.Place.{Place}
 use Rattle.ev_base.specs.declared.place.Place.TheVariants as place

@@ -1,11 +1,10 @@
 -- What changed leads from one view to the other in the sections of the realm, of users, of streams and of subscriptions.
-use Rattle.std.proofs.Common.{◌≡◌, ℕ, Bool, true, false, not, cond, ◌==◌, List, [], ◌∷◌, ◌++◌, map, flat_map, fold, bytes_eq, Option, None, Some, sym, ap, subst, refl, ◌∙◌}
+use Rattle.std.proofs.Common.{◌≡◌, ℕ, Bool, true, false, ◌==◌, List, [], ◌∷◌, ◌++◌, map, fold, bytes_eq, Option, None, Some, sym, ap, refl, ◌∙◌}
 use Rattle.std.specs.BTreeMap.{is_at}
 use Rattle.std.proofs.lemmas.List.Sums.{fold-append}
 use Rattle.std.proofs.lemmas.Option.{same_Some}
-use Rattle.ev_rows.specs.Rows.{row_at, gained, lost, fresh, keys_of, one_of, RowsRise}
+use Rattle.ev_rows.specs.Rows.{row_at, gained, lost, fresh, keys_of, one_of}
 use Rattle.ev_rows.proofs.ChangeLemmas.{row_at-gained, rise-gained}
-use Rattle.ev_rows.proofs.RowLemmas.{at_itself}
 use Rattle.ev_base.specs.Orders.{user_cmp, user_order, stream_cmp, stream_order}
 use Rattle.ev_base.specs.Roles.{role_number}
 use Rattle.ev_base.specs.declared.ids.UserId.{UserId}
@@ -22,14 +21,14 @@ use Rattle.ev_types.specs.declared.event.SubscriptionField.TheVariants as subscr
 use Rattle.ev_types.specs.declared.event.Event.{Event}
 use Rattle.ev_types.specs.declared.event.Event.TheVariants.{RealmUpdate, UserAdd, UserChange, StreamCreate, StreamChange, StreamDelete, SubAdd, SubChange, SubRemove}
 use Rattle.ev_types.specs.Sections.{Sections}
-use Rattle.ev_types.specs.Writes.{Write, put, patch, drop_row, Rules, cell_after_write, cell_after}
-use Rattle.ev_types.specs.EventWrites.{realm_after, user_rules, user_writes, user_with, stream_rules, stream_writes, stream_with, subscription_rules, subscription_writes, subscription_with}
+use Rattle.ev_types.specs.Writes.{put, drop_row, cell_after}
+use Rattle.ev_types.specs.EventWrites.{realm_after, user_rules, user_writes, stream_rules, stream_writes, subscription_rules, subscription_writes}
 use Rattle.ev_types.specs.Applying.{realm_applied, rows_applied}
-use Rattle.ev_laws.specs.Changes.{unless, same_bool, realm_changes, user_changes, user_events, stream_changes, stream_events, subscription_changes, subscription_events, peer_events, message_events, changes_between}
+use Rattle.ev_laws.specs.Changes.{unless, same_bool, realm_changes, user_changes, stream_changes, subscription_changes, changes_between}
 use Rattle.ev_laws.specs.Comparable.{Comparable}
 use Rattle.ev_laws.proofs.Tests.{texts_same, bools_same, roles_same}
 use Rattle.ev_laws.proofs.Groups.{quiet_user_changes, quiet_stream_changes, quiet_subscription_changes, quiet_realm, quiet_users, quiet_streams, quiet_subscriptions, quiet_peers, quiet_messages, realm_alone, users_alone, streams_alone, subscriptions_alone}
-use Rattle.ev_laws.proofs.Cells.{over, without, cell_step, rows_lead, cell-puts, cell-drops, cell-unless, fold-one_of, keyed_leads}
+use Rattle.ev_laws.proofs.Cells.{without, cell_step, rows_lead, cell-puts, cell-drops, cell-unless, fold-one_of, keyed_leads}
 
 -- the realm
 realm_name : (same : Bool) (before after : ShownRealm) → (same ≡ true → after.name ≡ before.name)

@@ -33,30 +33,32 @@ filter_range test (x ∷ xs) (suc i) n within front middle back =
     let fail = front 0 x (omega arith) (omega arith) in
     rw fail (filter_range test xs i n (omega arith) (λ k d low high. front (suc k) d (omega arith) (omega arith)) (λ k d low high. middle (suc k) d (omega arith) (omega arith)) (λ k d low high. back (suc k) d (omega arith) (omega arith)))
 
--- of two keys that begin with a number, that of the lower one isn't the higher
-first_rises : (a b : ℕ) (rest : Ordering) → ordering_then (nat_cmp a b) rest ≡ Less → a ≤ b
-first_rises a b rest less = elim (cases_lt b a) [
-  | inl above ↦ absurd (grind arith)
-  | inr up_to ↦ up_to
-]
-
--- rows that rise by pairs or triples rise by the number that comes first
-pub numbers_rise : {K V : Type 0} (cmp : K → K → Ordering) (number : K → ℕ) (rest : K → K → Ordering) (rows : List (K × V))
-    → ((a b : K) → cmp a b ≡ ordering_then (nat_cmp (number a) (number b)) (rest a b)) → RowsRise cmp rows
+-- rows rise by a number that their order compares first
+pub numbers_rise : {K V : Type 0} (cmp : K → K → Ordering) (number : K → ℕ) (rows : List (K × V))
+    → ((a b : K) → nat_cmp (number a) (number b) ≡ Greater → cmp a b ≡ Greater) → RowsRise cmp rows
     → IsNonDecreasingBy (λ (row : K × V). number row.0) rows
-numbers_rise {K} {V} cmp number rest rows is rise i j d order within = elim (cases_lt i j) [
-  | inl before ↦ first_rises _ _ _ (sym (is _ _) ∙ below-from_rise cmp rows rise i j d before within)
+numbers_rise {K} {V} cmp number rows first rise i j d order within = elim (cases_lt i j) [
+  | inl before ↦ not_higher _ _ (first _ _) (below-from_rise cmp rows rise i j d before within)
   | inr after ↦ let same : i ≡ j = omega arith in rw same (omega arith)
 ]
+  where
+    not_higher : (m n : ℕ) {o : Ordering} → (nat_cmp m n ≡ Greater → o ≡ Greater) → o ≡ Less → m ≤ n
+    not_higher m n first less = grind arith
+
+-- an element of a list that has some
+some_element : {X : Type 0} (xs : List X) → 0 < length xs → X
+some_element [] none = absurd (omega arith)
+some_element (x ∷ xs) some = x
 
 module _ {X : Type 0} (number : X → ℕ) (n : ℕ) (xs : List X) where
   -- the places below a number and up to it part the elements with that number from the others
-  pub part_order : (start end : ℕ) → start ≤ length xs → end ≤ length xs
+  pub part_order : (start end : ℕ) → start ≤ length xs
       → IsPartitionPoint (λ x. ltb (number x) n ≡ true) (λ x. ltb (number x) n ≡ false) xs start
       → IsPartitionPoint (λ x. leb (number x) n ≡ true) (λ x. leb (number x) n ≡ false) xs end
-      → (d : X) → start ≤ end
-  part_order start end start_within end_within starts ends d = elim (cases_lt end start) [
+      → start ≤ end
+  part_order start end start_within starts ends = elim (cases_lt end start) [
     | inl before ↦
+        let d = some_element xs (omega (arith, start_within, before)) in
         let below = starts.0 end d (omega arith) before in
         let above = ends.1 end d (omega arith) (omega arith) in
         absurd (grind (arith, nat_tests, below, above))

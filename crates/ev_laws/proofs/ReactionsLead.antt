@@ -1,20 +1,20 @@
 -- What changed leads from one view to the other in the section of reactions.
-use Rattle.std.proofs.Common.{◌≡◌, ℕ, Bool, true, false, cond, ◌&&◌, ◌==◌, List, [], ◌∷◌, ◌++◌, map, flat_map, fold, Ordering, Option, None, Some, is_some, sym, ap, refl, ◌∙◌, append-nil}
+use Rattle.std.proofs.Common.{◌≡◌, ℕ, Bool, true, false, cond, ◌&&◌, ◌==◌, List, [], ◌∷◌, map, flat_map, fold, Option, None, Some, is_some, sym, ap, refl, ◌∙◌, append-nil}
 use Rattle.std.specs.List.{filter_map}
 use Rattle.std.specs.Option.{option_map_or}
-use Rattle.std.specs.Ordering.{is_eq, ordering_then}
+use Rattle.std.specs.Ordering.{ordering_then}
 use Rattle.std.specs.BTreeMap.{is_at}
 use Rattle.std.proofs.lemmas.List.Folds.{flat_map-map}
 use Rattle.std.proofs.lemmas.List.Sums.{fold-append}
 use Rattle.ev_rows.specs.Rows.{RowsRise, row_at, gained, kept, lost, fresh, keys_of, one_of, only_if}
+use Rattle.ev_rows.proofs.RowFolds.{fold-flat_map_at, fold-each}
 use Rattle.ev_rows.proofs.RiseLemmas.{rise-filter}
-use Rattle.ev_rows.proofs.RowLemmas.{at_itself, row_at-filter_keys}
+use Rattle.ev_rows.proofs.RowLemmas.{at_same, row_at-filter_keys}
 use Rattle.ev_rows.proofs.ChangeLemmas.{row_at-gained, rise-gained}
 use Rattle.ev_base.specs.Orders.{message_cmp, message_order, user_cmp, text_cmp, reaction_cmp, reaction_order}
 use Rattle.ev_base.specs.declared.ids.UserId.{UserId}
 use Rattle.ev_base.specs.declared.ids.MessageId.{MessageId}
 use Rattle.ev_types.specs.declared.rows.ShownMessage.{ShownMessage}
-use Rattle.ev_types.specs.declared.event.FullMessage.{FullMessage}
 use Rattle.ev_types.specs.declared.event.Event.{Event}
 use Rattle.ev_types.specs.declared.event.Event.TheVariants.{MessageGone, ReactionAdd, ReactionRemove}
 use Rattle.ev_types.specs.Sections.{Sections, ReactionKey}
@@ -23,9 +23,8 @@ use Rattle.ev_types.specs.EventWrites.{reaction_rules, reaction_writes, reaction
 use Rattle.ev_types.specs.Applying.{rows_applied}
 use Rattle.ev_laws.specs.Changes.{full_message, arrivals, KeptMessage, move_events, edits, flag_events, is_kept, of_kept, reaction_events, changes_between}
 use Rattle.ev_laws.specs.Comparable.{Comparable}
-use Rattle.ev_laws.proofs.Quiet.{Quiet}
 use Rattle.ev_laws.proofs.Groups.{quiet_people, quiet_moves, quiet_edits, quiet_flags, messages_alone}
-use Rattle.ev_laws.proofs.Cells.{over, without, cell_step, rows_lead, fold-one_of, fold-flat_map_at, fold-each}
+use Rattle.ev_laws.proofs.Cells.{over, without, cell_step, rows_lead, fold-one_of}
 use Rattle.ev_laws.proofs.MessagesLead.{arrivals_act, fold-message_events}
 use Rattle.ev_laws.proofs.Tests.{numbers_at, then_at}
 
@@ -46,48 +45,35 @@ module _ (q : ReactionKey) where
   abbrev put_all : MessageId → List (UserId × List ℕ) → List (Write ReactionKey (Unit {0}) ⊥ MessageId)
   put_all message reactions = map (λ reaction. put (message, reaction.0, reaction.1) tt) reactions
 
-  -- whether the key's user and emoji are these
-  abbrev is_by : UserId → List ℕ → Bool
-  is_by user emoji = is_eq (ordering_then (user_cmp q.1 user) (text_cmp q.2 emoji))
+  -- a key of another message isn't this one
+  other_message : (key : ReactionKey) → is_at (message_cmp q.0) key.0 ≡ false → is_at (reaction_cmp q) key ≡ false
+  other_message key off =
+      then_at (ordering_then (message_cmp q.0 key.0) (user_cmp q.1 key.1)) (text_cmp q.2 key.2) false _ (then_at (message_cmp q.0 key.0) (user_cmp q.1 key.1) false _ off refl) refl
 
   -- the reactions to another message leave the cell
   put_off : (message : MessageId) (reactions : List (UserId × List ℕ)) (cell : Cell) → is_at (message_cmp q.0) message ≡ false → cell_after reaction_rules q cell (put_all message reactions) ≡ cell
   put_off message [] cell off = refl
   put_off message (one ∷ reactions) cell off =
-      ap (λ (b : Bool). cell_after reaction_rules q (cond b (Some tt) cell) (put_all message reactions))
-      (then_at (message_cmp q.0 message) (ordering_then (user_cmp q.1 one.0) (text_cmp q.2 one.1)) false (is_by one.0 one.1) off refl)
+      ap (λ (b : Bool). cell_after reaction_rules q (cond b (Some tt) cell) (put_all message reactions)) (other_message (message, one.0, one.1) off)
       ∙ put_off message reactions cell off
 
-  settled : (o cell : Cell) → over o (over (Some tt) cell) ≡ Some tt
-  settled None cell = refl
-  settled (Some u) cell = refl
+  -- a reaction that is put first shows only where the others don't put it again
+  settled : (at : Bool) (o cell : Cell) → over o (cond at (Some tt) cell) ≡ over (cond at (Some tt) o) cell
+  settled true None cell = refl
+  settled true (Some u) cell = refl
+  settled false o cell = refl
 
   -- those to the key's message put the key's reaction, where it is there
   put_here : (reactions : Reactions) (cell : Cell) → cell_after reaction_rules q cell (put_all q.0 (of_message q.0 reactions)) ≡ over (row_at reaction_cmp reactions q) cell
   put_here [] cell = refl
-  put_here (one ∷ reactions) cell =
-      go (is_at (message_cmp q.0) one.0.0) (is_by one.0.1 one.0.2) (λ c. put_here reactions c)
-      ∙ ap (λ (b : Bool). over (cond b (Some one.1) (row_at reaction_cmp reactions q)) cell)
-      (sym (then_at (message_cmp q.0 one.0.0) (ordering_then (user_cmp q.1 one.0.1) (text_cmp q.2 one.0.2)) (is_at (message_cmp q.0) one.0.0) (is_by one.0.1 one.0.2) refl refl))
+  put_here (one ∷ reactions) cell = go (is_at (message_cmp q.0) one.0.0) refl (λ c. put_here reactions c)
     where
-      here : (b : Bool) → is_by one.0.1 one.0.2 ≡ b → is_at (reaction_cmp q) (q.0, one.0.1, one.0.2) ≡ b
-      here b is = then_at (message_cmp q.0 q.0) (ordering_then (user_cmp q.1 one.0.1) (text_cmp q.2 one.0.2)) true b (at_itself message_order q.0) is
-
-      own : (at by : Bool) → at ≡ by → ((c : Cell) → cell_after reaction_rules q c (put_all q.0 (of_message q.0 reactions)) ≡ over (row_at reaction_cmp reactions q) c)
-          → cell_after reaction_rules q (cond at (Some tt) cell) (put_all q.0 (of_message q.0 reactions)) ≡ over (cond by (Some one.1) (row_at reaction_cmp reactions q)) cell
-      own true true is further = further (Some tt) ∙ settled (row_at reaction_cmp reactions q) cell
-      own true false is further = cc
-      own false true is further = cc
-      own false false is further = further cell
-
-      go : (of_it by : Bool) → ((c : Cell) → cell_after reaction_rules q c (put_all q.0 (of_message q.0 reactions)) ≡ over (row_at reaction_cmp reactions q) c)
-          → cell_after reaction_rules q cell (put_all q.0 (of_message q.0 (one ∷ reactions))) ≡ over (cond (is_at (message_cmp q.0) one.0.0 && is_by one.0.1 one.0.2) (Some one.1) (row_at reaction_cmp reactions q)) cell
-      go of_it by further = split (is_at (message_cmp q.0) one.0.0) refl
-        where
-          split : (b : Bool) → is_at (message_cmp q.0) one.0.0 ≡ b
-              → cell_after reaction_rules q cell (put_all q.0 (of_message q.0 (one ∷ reactions))) ≡ over (cond (is_at (message_cmp q.0) one.0.0 && is_by one.0.1 one.0.2) (Some one.1) (row_at reaction_cmp reactions q)) cell
-          split true is = rw is (own (is_at (reaction_cmp q) (q.0, one.0.1, one.0.2)) (is_by one.0.1 one.0.2) (here (is_by one.0.1 one.0.2) refl) further)
-          split false is = rw is (further cell)
+      go : (b : Bool) → is_at (message_cmp q.0) one.0.0 ≡ b → ((c : Cell) → cell_after reaction_rules q c (put_all q.0 (of_message q.0 reactions)) ≡ over (row_at reaction_cmp reactions q) c)
+          → cell_after reaction_rules q cell (put_all q.0 (of_message q.0 (one ∷ reactions))) ≡ over (row_at reaction_cmp (one ∷ reactions) q) cell
+      go true at further = rw at
+          (further _ ∙ settled (is_at (reaction_cmp q) (q.0, one.0.1, one.0.2)) (row_at reaction_cmp reactions q) cell
+          ∙ ap (λ (message : MessageId). over (row_at reaction_cmp (((message, one.0.1, one.0.2), one.1) ∷ reactions) q) cell) (at_same message_order q.0 one.0.0 at))
+      go false off further = rw (off, other_message one.0 off) (further cell)
 
   module _ (before after : Sections) (comparable : Comparable before after) where
     abbrev rows : List KeptMessage

@@ -1,12 +1,11 @@
 -- Facts that compute on small views: one for each of the eleven places of the order of events.
-use Rattle.std.proofs.Common.{◌≡◌, ℕ, Bool, true, false, codes, None, Some, List, [], ◌∷◌, refl}
+use Rattle.std.proofs.Common.{◌≡◌, ℕ, Bool, true, false, codes, List, [], ◌∷◌, refl}
 use Rattle.ev_base.specs.declared.ids.UserId.{UserId}
 use Rattle.ev_base.specs.declared.ids.StreamId.{StreamId}
 use Rattle.ev_base.specs.declared.ids.MessageId.{MessageId}
 use Rattle.ev_base.specs.declared.kinds.Flag.TheVariants as flag
 use Rattle.ev_base.specs.declared.kinds.Role.{Role}
 use Rattle.ev_base.specs.declared.kinds.Role.TheVariants.{Member, Guest}
-use Rattle.ev_base.specs.declared.place.Place.{Place}
 use Rattle.ev_base.specs.declared.place.Place.TheVariants as place
 use Rattle.ev_types.specs.declared.rows.ShownRealm.{ShownRealm}
 use Rattle.ev_types.specs.declared.rows.ShownUser.{ShownUser}
@@ -19,7 +18,6 @@ use Rattle.ev_types.specs.declared.event.UserField.TheVariants as user_field
 use Rattle.ev_types.specs.declared.event.StreamField.TheVariants as stream_field
 use Rattle.ev_types.specs.declared.event.SubscriptionField.TheVariants as subscription_field
 use Rattle.ev_types.specs.declared.event.FullMessage.{FullMessage}
-use Rattle.ev_types.specs.declared.event.FlagChange.{FlagChange}
 use Rattle.ev_types.specs.declared.event.Event.TheVariants.{RealmUpdate, UserAdd, UserChange, StreamCreate, StreamChange, StreamDelete, SubAdd, SubChange, SubRemove, PeerAdd, PeerRemove, MessageNew, MessagesRestored, MessageMoved, MessageEdited, Flags, MessageGone, ReactionAdd, ReactionRemove}
 use Rattle.ev_types.specs.Sections.{Sections, ReactionKey}
 use Rattle.ev_laws.specs.Changes.{changes_between, realm_changes, user_events, stream_events, subscription_events, Peers}

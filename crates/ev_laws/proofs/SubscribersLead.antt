@@ -1,13 +1,13 @@
 -- What changed leads from one view to the other in the section of subscribers.
-use Rattle.std.proofs.Common.{◌≡◌, ℕ, Bool, true, false, cond, ◌&&◌, ◌==◌, List, [], ◌∷◌, ◌++◌, map, flat_map, fold, Less, Equal, Ordering, Option, None, Some, is_some, sym, ap, subst, refl, ◌∙◌}
-use Rattle.std.specs.List.{filter_map}
+use Rattle.std.proofs.Common.{◌≡◌, Bool, true, false, cond, ◌&&◌, ◌==◌, List, [], ◌∷◌, ◌++◌, map, flat_map, fold, Equal, Ordering, Option, None, Some, is_some, sym, ap, subst, refl, ◌∙◌}
 use Rattle.std.specs.Option.{option_map_or}
-use Rattle.std.specs.Ordering.{is_eq, ordering_then}
+use Rattle.std.specs.Ordering.{ordering_then}
 use Rattle.std.specs.BTreeMap.{is_at}
 use Rattle.std.proofs.lemmas.Cmp.{tied_itself}
 use Rattle.std.proofs.lemmas.List.Folds.{flat_map-map}
 use Rattle.std.proofs.lemmas.List.Sums.{fold-append}
-use Rattle.ev_rows.specs.Rows.{RowsRise, row_at, gained, kept, lost, fresh, keys_of, one_of, only_if}
+use Rattle.ev_rows.specs.Rows.{RowsRise, row_at, gained, kept, lost, fresh, keys_of, one_of}
+use Rattle.ev_rows.proofs.RowFolds.{fold-flat_map_at}
 use Rattle.ev_rows.proofs.RiseLemmas.{IsBelow, rise-nil, rise-cons, rise_head, rise_tail}
 use Rattle.ev_rows.proofs.RowLemmas.{at_itself, at_same}
 use Rattle.ev_rows.proofs.ChangeLemmas.{row_at-gained}
@@ -23,9 +23,9 @@ use Rattle.ev_types.specs.EventWrites.{subscriber_rules, subscriber_writes}
 use Rattle.ev_types.specs.Applying.{rows_applied}
 use Rattle.ev_laws.specs.Changes.{stream_changes, stream_events, Peers, peers_of, peers_added, peers_removed, peer_events, changes_between}
 use Rattle.ev_laws.specs.Comparable.{Comparable}
-use Rattle.ev_laws.proofs.Quiet.{Quiet, skip_front, quiet_append, quiet_one_of, quiet_flat_map}
+use Rattle.ev_laws.proofs.Quiet.{skip_front, quiet_append, quiet_one_of, quiet_flat_map}
 use Rattle.ev_laws.proofs.Groups.{quiet_stream_changes, quiet_realm, quiet_users, quiet_subscriptions, quiet_messages, peers_after_streams}
-use Rattle.ev_laws.proofs.Cells.{over, without, cell_step, rows_lead, fold-one_of, fold-flat_map_at}
+use Rattle.ev_laws.proofs.Cells.{over, without, cell_step, rows_lead, fold-one_of}
 use Rattle.ev_laws.proofs.Tests.{numbers_at, then_at}
 
 -- the subscribers of a stream, by user

@@ -1,9 +1,9 @@
 -- The events that tell what differs between two views, in their order.
-use Rattle.std.specs.Prelude.{ℕ, Bool, true, false, not, ◌&&◌, ◌||◌, ◌==◌, if◌then◌else◌, bytes_eq, List, [], ◌∷◌, ◌++◌, map, flat_map, filter, fold, Option, None, Some, is_some, is_none, option_map, ⊤}
+use Rattle.std.specs.Prelude.{ℕ, Bool, true, false, not, ◌&&◌, ◌==◌, if◌then◌else◌, bytes_eq, List, [], ◌∷◌, ◌++◌, map, flat_map, filter, fold, Option, None, Some, is_some, ⊤}
 use Rattle.std.specs.List.{filter_map}
 use Rattle.std.specs.Option.{option_map_or, unwrap_or}
 use Rattle.std.specs.BTreeMap.{insert_entry, is_at}
-use Rattle.ev_rows.specs.Rows.{gained, keyed_events, keys_of, kept, lost, one_of, only_if, row_at, sift}
+use Rattle.ev_rows.specs.Rows.{gained, keyed_events, keys_of, kept, lost, one_of, only_if, row_at}
 use Rattle.ev_base.specs.Orders.{message_cmp, pair_cmp, reaction_cmp, stream_cmp, text_cmp, user_cmp}
 use Rattle.ev_base.specs.Roles.{role_number}
 use Rattle.ev_base.specs.declared.ids.UserId.{UserId}
@@ -24,7 +24,6 @@ use Rattle.ev_types.specs.declared.event.UserField.TheVariants as user_field
 use Rattle.ev_types.specs.declared.event.StreamField.TheVariants as stream_field
 use Rattle.ev_types.specs.declared.event.SubscriptionField.TheVariants as subscription_field
 use Rattle.ev_types.specs.declared.event.FullMessage.{FullMessage}
-use Rattle.ev_types.specs.declared.event.FlagChange.{FlagChange}
 use Rattle.ev_types.specs.declared.event.Event.{Event}
 use Rattle.ev_types.specs.declared.event.Event.TheVariants.{RealmUpdate, UserAdd, UserChange, StreamCreate, StreamChange, StreamDelete, SubAdd, SubChange, SubRemove, PeerAdd, PeerRemove, MessageNew, MessagesRestored, MessageMoved, MessageEdited, Flags, MessageGone, ReactionAdd, ReactionRemove}
 use Rattle.ev_types.specs.Sections.{Sections, ReactionKey}

@@ -1,5 +1,5 @@
 -- When events can tell what differs between two views.
-use Rattle.std.specs.Prelude.{◌≡◌, ℕ, Bool, true, not, Option, None, Some, is_some, List, option_map, ⊤}
+use Rattle.std.specs.Prelude.{◌≡◌, true, not, Some, is_some}
 use Rattle.ev_rows.specs.Rows.{only_if, row_at, sift}
 use Rattle.ev_base.specs.Orders.{message_cmp, reaction_cmp, stream_cmp, stream_user_cmp, user_cmp}
 use Rattle.ev_base.specs.declared.ids.UserId.{UserId}

@@ -13,6 +13,7 @@ mod messages;
 mod moves;
 mod peers;
 mod people;
+mod ranges;
 mod reactions;
 mod streams;
 

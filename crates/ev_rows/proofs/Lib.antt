@@ -3,6 +3,7 @@ pub mod KeepLemmas
 pub mod MergeLemmas
 pub mod RangeLemmas
 pub mod RiseLemmas
+pub mod RowFolds
 pub mod RowLemmas
 pub mod SiftLemmas
 pub mod PlaceLemmas

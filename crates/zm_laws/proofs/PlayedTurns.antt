@@ -310,7 +310,7 @@ module _ (final : List RealmStep) (count : ℕ) (legal_final : IsLegalRealm fina
         let some = following.some in
         let poll = polled_at user queue asked before (shard_reply.Answer items reached) stood some in
         let tells = answered_tells (changes_stream (commands final)) (viewed (commands final)) (line_at (serving user before) before.shards) user queue asked items reached poll.answers in
-        let there = queue_there user queue asked before (shard_reply.Answer items reached) stood some tells.0.own in
+        let there = queue_there user queue asked before (shard_reply.Answer items reached) stood some tells.polling.own in
         let inside = (serving_inside user before (stood_polled user queue asked before (shard_reply.Answer items reached) stood) some).1 in
         following_shard final count legal_final (serving user before) (shard.Poll user queue asked) (shard_reply.Answer items reached) before clients
         (λ q. client_after q (Poll user queue asked) (Answered reached queue items) (clients q)) shown
@@ -329,11 +329,11 @@ module _ (final : List RealmStep) (count : ℕ) (legal_final : IsLegalRealm fina
         let line = line_at (serving user before) before.shards in
         let poll = polled_at user queue asked before (shard_reply.Answer items reached) stood some in
         let tells = answered_tells (changes_stream all) (viewed all) line user queue asked items reached poll.answers in
-        let there = queue_there user queue asked before (shard_reply.Answer items reached) stood some tells.0.own in
+        let there = queue_there user queue asked before (shard_reply.Answer items reached) stood some tells.polling.own in
         let at_line = subst (λ n. FollowedOn final queue (clients queue) (shown queue) (line_at n before.shards)) there (following.followed queue) in
         let now = answered_now final queue line user asked items reached (clients queue) poll.within at_line.lives poll.answers in
         let given = client_at final queue (opened_at queue line) (position line) in
-        let reached_is = tells.2 in
+        let reached_is = tells.at_position in
         let view = view_at_position user queue before reached reached_is (stood_polled user queue asked before (shard_reply.Answer items reached) stood) (following.announced_only (serving user before)) in
         record {
           registered = tt;
@@ -360,11 +360,11 @@ module _ (final : List RealmStep) (count : ℕ) (legal_final : IsLegalRealm fina
             let line = line_at (serving user before) before.shards in
             let poll = polled_at user queue asked before (shard_reply.Empty reached) stood some in
             let tells = empty_tells (changes_stream all) (viewed all) line user queue asked reached poll.answers in
-            let there = queue_there user queue asked before (shard_reply.Empty reached) stood some tells.0.own in
+            let there = queue_there user queue asked before (shard_reply.Empty reached) stood some tells.polling.own in
             let at_line = subst (λ n. FollowedOn final queue (clients queue) (shown queue) (line_at n before.shards)) there (following.followed queue) in
             let now = empty_now final queue line user asked reached (clients queue) poll.within at_line.lives poll.answers in
             let given = client_at final queue (opened_at queue line) (position line) in
-            let reached_is = tells.2 in
+            let reached_is = tells.at_position in
             let view = view_at_position user queue before reached reached_is quiet.stood (following.announced_only (serving user before)) in
             record {
               registered = tt;

@@ -136,17 +136,17 @@ module _ (realm : List RealmStep) (queue : QueueId) where
   answered_now before user after items reached client within lives answers =
       let all = commands realm in
       let tells = answered_tells (changes_stream all) (viewed all) before user queue after items reached answers in
-      let upto = lives tells.0.was_live in
+      let upto = lives tells.polling.was_live in
       let from = opened_at queue before in
       let until = position before in
       let given_is = upto.given_is in
-      let sent = tells.0.sent in
+      let sent = tells.polling.sent in
       let held : count_of after ≤ length (told queue.user all from upto.at) = omega arith in
       let taken = taken_in from upto.at until (count_of after) upto.past_opening upto.up_to_now within held in
-      let client_is = ap₂ (λ list had. option_map (take_in list) had) tells.1 upto.client_is ∙ ap Some taken in
+      let client_is = ap₂ (λ list had. option_map (take_in list) had) tells.items_are upto.client_is ∙ ap Some taken in
       record {
         client_is = client_is;
-        given_is = ap₂ max_counted given_is tells.1 ∙ ap (λ c. c.count) taken;
+        given_is = ap₂ max_counted given_is tells.items_are ∙ ap (λ c. c.count) taken;
       }
 
   -- where all was acknowledged the client has all up to the position already
@@ -158,14 +158,14 @@ module _ (realm : List RealmStep) (queue : QueueId) where
   empty_now before user after reached client within lives answers =
       let all = commands realm in
       let tells = empty_tells (changes_stream all) (viewed all) before user queue after reached answers in
-      let upto = lives tells.0.was_live in
+      let upto = lives tells.polling.was_live in
       let from = opened_at queue before in
       let until = position before in
       let first = told queue.user all from upto.at in
       let later = told queue.user all upto.at until in
       let given_is = upto.given_is in
-      let sent = tells.0.sent in
-      let acknowledged = tells.1 in
+      let sent = tells.polling.sent in
+      let acknowledged = tells.no_more in
       let parts = since_split queue.user all from upto.at until upto.past_opening upto.up_to_now within in
       let longer = ap length parts ∙ length-append first later in
       let none : later ≡ [] = nil_from_length later (omega arith) in
@@ -252,11 +252,11 @@ module _ (realm : List RealmStep) (queue : QueueId) where
       go true same_is =
           let right = at_queue (same_queue_is queue other same_is) in
           let tells = answered_tells (changes_stream (commands realm)) (viewed (commands realm)) before user queue after more reached right in
-          let was_live = tells.0.was_live in
+          let was_live = tells.polling.was_live in
           record {
             lives = λ lives. up_to_date _ _ _ _ (opened_at_within (changes_stream (commands realm)) (viewed (commands realm)) queue before legal) (answered_now before user after more reached client had inner.lives right);
             stand = AllStand-append (changes_stream (commands realm) queue before) more items
-                (numbered_stand (changes_stream (commands realm) queue before) (count_of after) more tells.1) inner.stand;
+                (numbered_stand (changes_stream (commands realm) queue before) (count_of after) more tells.items_are) inner.stand;
             none_yet = λ is. absurd (false≢true (sym (ap is_live_phase is) ∙ was_live));
           }
       go false same_is = inner

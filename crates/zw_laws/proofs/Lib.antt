@@ -5,6 +5,5 @@ pub mod Followers
 pub mod HistoryLines
 pub mod OtherStreams
 pub mod Replaying
-pub mod RowFolds
 pub mod TablesCount
 pub mod ViewChanges

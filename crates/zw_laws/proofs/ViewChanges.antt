@@ -16,7 +16,7 @@ use Rattle.zw_lines.specs.Changes.{SamePerson, Comparable, person_changes, chang
 use Rattle.zw_lines.specs.Applying.{renamed_person, applied}
 use Rattle.ev_rows.proofs.ChangeLemmas.{row_at-gained, row_at-kept, rise-gained, rise-kept}
 use Rattle.ev_rows.proofs.RowLemmas.{at_itself, same_rows}
-use Rattle.zw_laws.proofs.RowFolds.{fold-flat_map_at}
+use Rattle.ev_rows.proofs.RowFolds.{fold-flat_map_at}
 use Rattle.ev_base.specs.Orders.{user_order}
 use Rattle.zw_lines.proofs.EventCells.{cell_after, row_at-applied, rise-applied}
 

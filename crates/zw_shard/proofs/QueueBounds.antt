@@ -1,6 +1,5 @@
 -- How many events of a queue were pruned, given and pushed, after legal steps.
-use Rattle.std.proofs.Common.{◌≡◌, ℕ, zero, suc, ◌+◌, ◌≤◌, ◌<◌, max, Bool, true, false, cond, ◌&&◌, ◌||◌, nat_lt, List, [], ◌∷◌, ◌++◌, length, drop, fold, flat_map, ℤ, refl, ap, sym, subst, ◌∙◌, arith, inl, inr, MatchBool, length-append, length-drop}
-use Rattle.std.proofs.lemmas.Bool.{and_parts, or_parts, ltb-false, ltb-true}
+use Rattle.std.proofs.Common.{◌≡◌, ℕ, zero, suc, ◌+◌, ◌≤◌, max, Bool, true, false, cond, List, [], ◌∷◌, ◌++◌, length, drop, fold, flat_map, ℤ, refl, ap, sym, subst, ◌∙◌, arith, length-append, length-drop}
 use Rattle.ev_base.specs.declared.ids.UserId.{UserId}
 use Rattle.ev_base.specs.declared.ids.QueueId.{QueueId}
 use Rattle.zw_lines.specs.declared.people.Event.{Event}
@@ -8,10 +7,11 @@ use Rattle.zw_lines.specs.declared.people.Item.{Item}
 use Rattle.zw_lines.specs.declared.shard.ShardInput.{ShardInput}
 use Rattle.zw_lines.specs.declared.shard.ShardInput.TheVariants.{Start, Push, Finish, Poll, Delete}
 use Rattle.zw_lines.specs.declared.shard.ShardReply.{ShardReply}
-use Rattle.zw_lines.specs.declared.shard.ShardReply.TheVariants.{Opened, Pushed, Finished, Answer, Empty, BadQueue, NotSent, Pruned, Deleted}
+use Rattle.zw_lines.specs.declared.shard.ShardReply.TheVariants.{Opened, Pushed, Finished, Answer, Empty, Deleted}
 use Rattle.zw_lines.specs.RealmLine.{events_for}
-use Rattle.zw_lines.specs.ShardLine.{ShardStep, ShardAnswers, IsLegalShard, OrNoMemory, Phase, unopened, opening, live, gone, is_live_phase, is_live, is_held, phase, phase_after, position, opened, given, given_after, pruned, pruned_after, pushed_stream, pushed_after, given_rows, fresh_notices, same_user, same_queue, count_of, id_of, is_below_all, numbered}
+use Rattle.zw_lines.specs.ShardLine.{ShardStep, ShardAnswers, IsLegalShard, Phase, unopened, opening, live, gone, is_live_phase, is_held, phase, phase_after, position, opened, given, given_after, pruned, pruned_after, pushed_stream, pushed_after, given_rows, fresh_notices, same_queue, count_of, id_of, numbered}
 use Rattle.zw_lines.proofs.ShardSteps.{same_queue_is, opened_tells, finished_tells}
+use Rattle.zw_lines.proofs.PollSteps.{Answering, Polling, answered_tells, empty_tells}
 use Rattle.zw_lines.proofs.ShardLines.{unopened_yet}
 
 pub count_of-id_of : (n : ℕ) → count_of (id_of n) ≡ n
@@ -26,90 +26,15 @@ fold-numbered greatest first (event ∷ events) within =
     let rest = fold-numbered (max greatest (first + 1)) (first + 1) events (omega arith) in
     rest ∙ omega arith
 
--- what an answer to a poll tells
-record Polled (asks sent below more : Bool) : Type 0 where
-  pub asks_is : asks ≡ true
-  pub sent_is : sent ≡ false
-  pub below_is : below ≡ false
-
-answered_among : (asks sent below more : Bool) (items right : List Item) (reached place : ℕ) (greatest newest : ℤ)
-    → MatchBool asks (MatchBool sent (Answer items reached ≡ NotSent greatest)
-    (MatchBool below (Answer items reached ≡ Pruned newest)
-    (MatchBool more (OrNoMemory (Answer items reached) (Answer items reached ≡ Answer right place)) (Answer items reached ≡ Empty place))))
-    (Answer items reached ≡ BadQueue)
-    → Polled asks sent below more × (more ≡ true) × (items ≡ right)
-answered_among false sent below more items right reached place greatest newest is = cc
-answered_among true true below more items right reached place greatest newest is = cc
-answered_among true false true more items right reached place greatest newest is = cc
-answered_among true false false false items right reached place greatest newest is = cc
-answered_among true false false true items right reached place greatest newest (inr is) = cc
-answered_among true false false true items right reached place greatest newest (inl is) =
-    (record { asks_is = refl; sent_is = refl; below_is = refl }, refl, cc)
-
-emptied_among : (asks sent below more : Bool) (right : List Item) (reached place : ℕ) (greatest newest : ℤ)
-    → MatchBool asks (MatchBool sent (Empty reached ≡ NotSent greatest)
-    (MatchBool below (Empty reached ≡ Pruned newest)
-    (MatchBool more (OrNoMemory (Empty reached) (Empty reached ≡ Answer right place)) (Empty reached ≡ Empty place))))
-    (Empty reached ≡ BadQueue)
-    → Polled asks sent below more
-emptied_among false sent below more right reached place greatest newest is = cc
-emptied_among true true below more right reached place greatest newest is = cc
-emptied_among true false true more right reached place greatest newest is = cc
-emptied_among true false false true right reached place greatest newest (inr is) = cc
-emptied_among true false false true right reached place greatest newest (inl is) = cc
-emptied_among true false false false right reached place greatest newest is =
-    record { asks_is = refl; sent_is = refl; below_is = refl }
-
--- a poll that was answered: the queue is live, and so many events were given and not pruned
-pub record Acknowledges (before : List ShardStep) (queue : QueueId) (count : ℕ) : Type 0 where
-  pub was_live : is_live queue before ≡ true
-  pub was_given : count ≤ given queue before
-  pub was_pruned : pruned queue before ≤ count
-
-acknowledges : (before : List ShardStep) (user : UserId) (queue : QueueId) (after : ℤ) (more : Bool)
-    → Polled (is_live queue before && same_user queue.user user) (nat_lt (given queue before) (count_of after))
-    (is_below_all after || nat_lt (count_of after) (pruned queue before)) more
-    → Acknowledges before queue (count_of after)
-acknowledges before user queue after more tells = record {
-  was_live = (and_parts (is_live queue before) (same_user queue.user user) tells.asks_is).0;
-  was_given = ltb-false (given queue before) (count_of after) tells.sent_is;
-  was_pruned = ltb-false (count_of after) (pruned queue before)
-      (or_parts (is_below_all after) (nat_lt (count_of after) (pruned queue before)) tells.below_is).1;
-}
-
-module _ (before : List ShardStep) (user : UserId) (queue : QueueId) (after : ℤ) (reached : ℕ) where
-  -- an answer has all events above the acknowledged ones, of which there is one
-  pub record Answering (items : List Item) : Type 0 where
-    pub acknowledged : Acknowledges before queue (count_of after)
-    pub more : count_of after < length (pushed_stream queue before)
-    pub items_are : items ≡ numbered (count_of after) (drop (count_of after) (pushed_stream queue before))
-
-  pub answer_tells : (items : List Item) → ShardAnswers pushed_stream given_rows before (Poll user queue after) (Answer items reached) → Answering items
-  answer_tells items answers =
-      let among = answered_among (is_live queue before && same_user queue.user user) (nat_lt (given queue before) (count_of after))
-      (is_below_all after || nat_lt (count_of after) (pruned queue before)) (nat_lt (count_of after) (length (pushed_stream queue before)))
-      items (numbered (count_of after) (drop (count_of after) (pushed_stream queue before))) reached (position before) _ _ answers in
-      record {
-        acknowledged = acknowledges before user queue after _ among.0;
-        more = ltb-true (count_of after) (length (pushed_stream queue before)) among.1;
-        items_are = among.2;
-      }
-
-  pub empty_tells : ShardAnswers pushed_stream given_rows before (Poll user queue after) (Empty reached) → Acknowledges before queue (count_of after)
-  empty_tells answers =
-      acknowledges before user queue after _ (emptied_among (is_live queue before && same_user queue.user user) (nat_lt (given queue before) (count_of after))
-      (is_below_all after || nat_lt (count_of after) (pruned queue before)) (nat_lt (count_of after) (length (pushed_stream queue before)))
-      (numbered (count_of after) (drop (count_of after) (pushed_stream queue before))) reached (position before) _ _ answers)
-
 -- an answer gives all events of the queue
 pub answer-given : (before : List ShardStep) (user : UserId) (queue : QueueId) (after : ℤ) (reached : ℕ) (items : List Item)
-    → Answering before user queue after reached items → given queue before ≤ length (pushed_stream queue before)
+    → Answering pushed_stream before user queue after items reached → given queue before ≤ length (pushed_stream queue before)
     → fold (λ greatest item. max greatest (count_of item.id)) (given queue before) items ≡ length (pushed_stream queue before)
 answer-given before user queue after reached items tells within =
     let first = count_of after in
     let stream = pushed_stream queue before in
     ap (λ (list : List Item). fold (λ greatest item. max greatest (count_of item.id)) (given queue before) list) tells.items_are
-    ∙ fold-numbered (given queue before) first (drop first stream) tells.acknowledged.was_given
+    ∙ fold-numbered (given queue before) first (drop first stream) tells.polling.sent
     ∙ omega (arith, length-drop first stream, tells.more, within)
 
 -- no event of a queue was given before its finish
@@ -188,11 +113,11 @@ module _ (queue : QueueId) where
       greatest : ℕ
       greatest = fold (λ greatest item. max greatest (count_of item.id)) (given queue before) items
 
-      all : queue ≡ other → (greatest ≡ length (pushed_stream queue before)) × Acknowledges before queue (count_of after)
+      all : queue ≡ other → (greatest ≡ length (pushed_stream queue before)) × Polling before user queue after
       all is =
-          let P : QueueId → Type 0 = λ q. Answering before user q after reached items in
-          let tells = subst P (sym is) (answer_tells before user other after reached items answers) in
-          (answer-given before user queue after reached items tells inner.given_within, tells.acknowledged)
+          let P : QueueId → Type 0 = λ q. Answering pushed_stream before user q after items reached in
+          let tells = subst P (sym is) (answered_tells pushed_stream given_rows before user other after items reached answers) in
+          (answer-given before user queue after reached items tells inner.given_within, tells.polling)
 
       go : (same : Bool) → same_queue queue other ≡ same
           → Bounds (phase queue before) (cond same (max (pruned queue before) (count_of after)) (pruned queue before)) (cond same greatest (given queue before))
@@ -201,16 +126,16 @@ module _ (queue : QueueId) where
       go true same_is =
           let tells = all (same_queue_is queue other same_is) in
           record {
-            pruned_within = omega (arith, tells.0, tells.1.was_given, tells.1.was_pruned, inner.given_within);
+            pruned_within = omega (arith, tells.0, tells.1.sent, tells.1.kept, inner.given_within);
             given_within = omega (arith, tells.0);
             begins = begins-live (phase queue before) greatest tells.1.was_live;
           }
   bounds_after before (Poll user other after) (Empty reached) legal answers inner = go (same_queue queue other) refl
     where
-      tells : queue ≡ other → Acknowledges before queue (count_of after)
+      tells : queue ≡ other → Polling before user queue after
       tells is =
-          let P : QueueId → Type 0 = λ q. Acknowledges before q (count_of after) in
-          subst P (sym is) (empty_tells before user other after reached answers)
+          let P : QueueId → Type 0 = λ q. Polling before user q after in
+          subst P (sym is) (empty_tells pushed_stream given_rows before user other after reached answers).polling
 
       go : (same : Bool) → same_queue queue other ≡ same
           → Bounds (phase queue before) (cond same (max (pruned queue before) (count_of after)) (pruned queue before)) (given queue before)
@@ -219,7 +144,7 @@ module _ (queue : QueueId) where
       go true same_is =
           let known = tells (same_queue_is queue other same_is) in
           record {
-            pruned_within = omega (arith, known.was_given, known.was_pruned);
+            pruned_within = omega (arith, known.sent, known.kept);
             given_within = inner.given_within;
             begins = inner.begins;
           }

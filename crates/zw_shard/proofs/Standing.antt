@@ -19,7 +19,8 @@ use Rattle.zw_lines.proofs.ShardSteps.{same_queue_is, opened_tells, finished_tel
 use Rattle.zw_lines.proofs.ShardLines.{is_held_phase, pushed_unopened}
 use Rattle.zw_shard.specs.ShardStanding.{QueueState, ShardState, ShardStands, find_queue, opens_of, queue_after, queue_at}
 use Rattle.zw_shard.specs.ShardData.{finished, got, new_queue, polled, shard_after, with_open, with_queue, with_told}
-use Rattle.zw_shard.proofs.QueueBounds.{Acknowledges, Answering, Begins, answer-given, answer_tells, bounds, count_of-id_of, empty_tells}
+use Rattle.zw_lines.proofs.PollSteps.{Answering, Polling, answered_tells, empty_tells}
+use Rattle.zw_shard.proofs.QueueBounds.{Begins, answer-given, bounds, count_of-id_of}
 use Rattle.zw_shard.proofs.OpenedOnce.{held-deleted, held-opened, opens_new}
 use Rattle.zw_shard.proofs.QueueLists.{count-push, count-same, count_from_none, count_ids, count_ids-map, count_ids-with_queue, count_ids-without_queue, find-map, find-push, find-with_queue, find-without_queue, is_it, one_if, or_found}
 
@@ -247,9 +248,9 @@ module _ (shard : ShardState) (line : List ShardStep) (stands : ShardStands shar
       kept_is : drop (count_of after - pruned q line) (drop (pruned q line) (pushed_stream q line)) ≡ drop (max (pruned q line) (count_of after)) (pushed_stream q line)
       was_held : is_held q line ≡ true
 
-    rest : (q : QueueId) → Acknowledges line q (count_of after) → Rest q
+    rest : (q : QueueId) → Polling line user q after → Rest q
     rest q known =
-        let pruned_is : pruned q line + (count_of after - pruned q line) ≡ max (pruned q line) (count_of after) = omega (arith, known.was_pruned) in
+        let pruned_is : pruned q line + (count_of after - pruned q line) ≡ max (pruned q line) (count_of after) = omega (arith, known.kept) in
         record {
           pruned_is = pruned_is;
           kept_is = drop-drop (count_of after - pruned q line) (pruned q line) (pushed_stream q line) ∙ ap (λ n. drop n (pushed_stream q line)) pruned_is;
@@ -270,9 +271,9 @@ module _ (shard : ShardState) (line : List ShardStep) (stands : ShardStands shar
             ≡ cond (is_held q line) (Some (record { id = q; is_live = is_live q line; pruned = cond same (max (pruned q line) (count_of after)) (pruned q line); given = cond same (greatest q) (given q line); kept = drop (cond same (max (pruned q line) (count_of after)) (pruned q line)) (pushed_stream q line) })) None
         found q false same_is = refl
         found q true same_is =
-            let P : QueueId → Type 0 = λ x. Answering line user x after reached items in
-            let tells = subst P (sym (same_queue_is q queue same_is)) (answer_tells line user queue after reached items answers) in
-            let known = rest q tells.acknowledged in
+            let P : QueueId → Type 0 = λ x. Answering pushed_stream line user x after items reached in
+            let tells = subst P (sym (same_queue_is q queue same_is)) (answered_tells pushed_stream given_rows line user queue after items reached answers) in
+            let known = rest q tells.polling in
             let all = got-pushed q line stands.legal ∙ sym (answer-given line user q after reached items tells (bounds q line stands.legal).given_within) in
             ap (option_map (polled after (Answer items reached))) (queue_at-held q line known.was_held)
             ∙ (λ i. Some (record { id = q; is_live = is_live q line; pruned = known.pruned_is i; given = all i; kept = known.kept_is i }))
@@ -289,8 +290,8 @@ module _ (shard : ShardState) (line : List ShardStep) (stands : ShardStands shar
             ≡ cond (is_held q line) (Some (record { id = q; is_live = is_live q line; pruned = cond same (max (pruned q line) (count_of after)) (pruned q line); given = given q line; kept = drop (cond same (max (pruned q line) (count_of after)) (pruned q line)) (pushed_stream q line) })) None
         found q false same_is = refl
         found q true same_is =
-            let P : QueueId → Type 0 = λ x. Acknowledges line x (count_of after) in
-            let known = rest q (subst P (sym (same_queue_is q queue same_is)) (empty_tells line user queue after reached answers)) in
+            let P : QueueId → Type 0 = λ x. Polling line user x after in
+            let known = rest q (subst P (sym (same_queue_is q queue same_is)) (empty_tells pushed_stream given_rows line user queue after reached answers).polling) in
             ap (option_map (polled after (Empty reached))) (queue_at-held q line known.was_held)
             ∙ (λ i. Some (record { id = q; is_live = is_live q line; pruned = known.pruned_is i; given = given q line; kept = known.kept_is i }))
             ∙ ap (λ b. cond b (Some (record { id = q; is_live = is_live q line; pruned = max (pruned q line) (count_of after); given = given q line; kept = drop (max (pruned q line) (count_of after)) (pushed_stream q line) })) None) (sym known.was_held)

@@ -1,12 +1,13 @@
 //! What changed in the messages and their reactions.
 
-ghost use Rattle.std.specs.Prelude.{◌≡◌, ◌≤◌, ◌-◌, drop, length, take, ◌++◌, filter, map, IfOk};
+ghost use Rattle.std.specs.Prelude.{◌≡◌, ◌++◌, filter, map, IfOk};
 ghost use Rattle.std.specs.BTreeMap.{is_at};
 ghost use Rattle.ev_rows.specs.Rows.{gained};
 ghost use Rattle.ev_base.specs.Orders.{message_cmp};
 ghost use Rattle.ev_laws.specs.Changes.{arrivals, edits, full_message};
 
 use super::differences::{Changing, gained_rows, push_change};
+use super::ranges::rows_under;
 use ev_base::{ExactClone, Keyed, Listed, MessageId, NoMemory, Text, UserId};
 use ev_types::{Event, FullMessage, ShownMessage};
 use std::alloc::Global;
@@ -57,21 +58,7 @@ fn with_reactions(
 fn reactions_to(reactions: &Reactions, message: MessageId) -> &[((MessageId, UserId, Text), ())]
     ensures { result.now ≡ filter (λ row. is_at (message_cmp message) row.0.0) reactions.now.rows }
 {
-    let (start, end) = message_places(reactions, message);
-    &reactions.rows()[start..end]
-}
-
-// From where to where they stand.
-fn message_places(reactions: &Reactions, message: MessageId) -> (usize, usize)
-    ensures order { result.0 ≤ result.1 }
-    ensures within { result.1 ≤ length reactions.now.rows }
-    ensures range { take (result.1 - result.0) (drop result.0 reactions.now.rows)
-        ≡ filter (λ row. is_at (message_cmp message) row.0.0) reactions.now.rows }
-{
-    let rows = reactions.rows();
-    let start = rows.partition_point(|row| row.0.0.0 < message.0);
-    let end = rows.partition_point(|row| row.0.0.0 <= message.0);
-    (start, end)
+    rows_under(reactions.rows(), message.0)
 }
 
 fn push_all_new(events: &mut Vec<Event>, mut messages: Vec<FullMessage>) -> Result<(), NoMemory>

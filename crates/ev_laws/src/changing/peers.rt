@@ -1,13 +1,15 @@
 //! Who became a subscriber of a stream, and who no longer is.
 
-ghost use Rattle.std.specs.Prelude.{◌≡◌, ◌≤◌, ◌-◌, drop, length, take, ◌++◌, flat_map, filter, is_none, Some, option_to_list, IfOk};
+ghost use Rattle.std.specs.Prelude.{◌≡◌, List, ◌++◌, flat_map, filter, is_none, Some, option_to_list, IfOk};
 ghost use Rattle.std.specs.BTreeMap.{is_at};
-ghost use Rattle.ev_rows.specs.Rows.{gained, keys_of, only_if, row_at};
+ghost use Rattle.ev_rows.specs.Rows.{gained, keys_of, one_of, only_if, row_at};
 ghost use Rattle.ev_base.specs.Orders.{stream_cmp, stream_user_cmp, user_cmp};
+ghost use Rattle.ev_types.specs.declared.event.Event.{Event};
 ghost use Rattle.ev_laws.specs.Changes.{peers_added, peers_of, peers_removed};
 
 use super::differences::push_one_of;
-use ev_base::{Keyed, NoMemory, StreamId, UserId};
+use super::ranges::rows_under;
+use ev_base::{Keyed, Listed, NoMemory, StreamId, UserId};
 use ev_types::{Event, ShownStream};
 use std::alloc::Global;
 
@@ -26,40 +28,34 @@ pub fn push_peers(
         ++ (flat_map (peers_added before.now.rows after.now.rows) (keys_of streams.now.rows)
         ++ flat_map (peers_removed before.now.rows after.now.rows) (keys_of streams.now.rows))) }
 {
-    push_added_peers(streams, before, after, events)?;
-    push_removed_peers(streams, before, after, events)
+    push_gained_peers(streams, before, after, events, |(stream, users)| {
+        Event::PeerAdd { stream, users }
+    })?;
+    push_gained_peers(streams, after, before, events, |(stream, users)| {
+        Event::PeerRemove { stream, users }
+    })
 }
 
-fn push_added_peers(
+// Adds, by stream, an event made of the subscribers afterwards that weren't before, where there are any.
+fn push_gained_peers<F: Fn((StreamId, Listed<UserId>)) -> Event>(
     streams: &Keyed<StreamId, ShownStream>,
     before: &Subscribers,
     after: &Subscribers,
     events: &mut Vec<Event>,
+    make: F,
 ) -> Result<(), NoMemory>
-    ensures { IfOk result (λ _. events.new.items ≡ events.old.items
-        ++ flat_map (peers_added before.now.rows after.now.rows) (keys_of streams.now.rows)) }
+    requires { F.IsAlwaysCallable make }
+    ensures { (event : StreamId → List UserId → Event)
+        → ((peers : StreamId × List UserId) (made : Event) → F.post make peers made → made ≡ event peers.0 peers.1)
+        → IfOk result (λ _. events.new.items ≡ events.old.items
+        ++ flat_map (λ stream. one_of (event stream)
+        (keys_of (gained user_cmp (peers_of stream before.now.rows) (peers_of stream after.now.rows))))
+        (keys_of streams.now.rows)) }
 {
     for (stream, _) in streams.rows() {
         let stream = *stream;
         let users = new_peers(*events.allocator(), before, after, stream)?;
-        push_one_of(events, users, |users| Event::PeerAdd { stream, users })?;
-    }
-    Ok(())
-}
-
-fn push_removed_peers(
-    streams: &Keyed<StreamId, ShownStream>,
-    before: &Subscribers,
-    after: &Subscribers,
-    events: &mut Vec<Event>,
-) -> Result<(), NoMemory>
-    ensures { IfOk result (λ _. events.new.items ≡ events.old.items
-        ++ flat_map (peers_removed before.now.rows after.now.rows) (keys_of streams.now.rows)) }
-{
-    for (stream, _) in streams.rows() {
-        let stream = *stream;
-        let users = new_peers(*events.allocator(), after, before, stream)?;
-        push_one_of(events, users, |users| Event::PeerRemove { stream, users })?;
+        push_one_of(events, users, |users| make((stream, users)))?;
     }
     Ok(())
 }
@@ -99,19 +95,5 @@ fn push_if_new(
 fn subscribers_of(subscribers: &Subscribers, stream: StreamId) -> &[((StreamId, UserId), ())]
     ensures { result.now ≡ filter (λ row. is_at (stream_cmp stream) row.0.0) subscribers.now.rows }
 {
-    let (start, end) = stream_places(subscribers, stream);
-    &subscribers.rows()[start..end]
-}
-
-// From where to where they stand.
-fn stream_places(subscribers: &Subscribers, stream: StreamId) -> (usize, usize)
-    ensures order { result.0 ≤ result.1 }
-    ensures within { result.1 ≤ length subscribers.now.rows }
-    ensures range { take (result.1 - result.0) (drop result.0 subscribers.now.rows)
-        ≡ filter (λ row. is_at (stream_cmp stream) row.0.0) subscribers.now.rows }
-{
-    let rows = subscribers.rows();
-    let start = rows.partition_point(|row| row.0.0.0 < stream.0);
-    let end = rows.partition_point(|row| row.0.0.0 <= stream.0);
-    (start, end)
+    rows_under(subscribers.rows(), stream.0)
 }

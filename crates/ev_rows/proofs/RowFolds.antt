@@ -1,5 +1,5 @@
 -- What a fold over what is made of rows does at one key.
-use Rattle.std.proofs.Common.{◌≡◌, Bool, true, false, cond, List, [], ◌∷◌, flat_map, fold, Ordering, None, Some, sym, ap, subst, refl, ◌∙◌}
+use Rattle.std.proofs.Common.{◌≡◌, Bool, true, false, cond, List, [], ◌∷◌, flat_map, fold, map, Ordering, None, Some, sym, ap, subst, refl, ◌∙◌}
 use Rattle.std.specs.Option.{option_map_or}
 use Rattle.std.specs.BTreeMap.{is_at}
 use Rattle.std.proofs.lemmas.Grind.{fold-append}
@@ -28,3 +28,17 @@ module _ {K V E C : Type 0} {cmp : K → K → Ordering} (order : KeyOrder cmp) 
           ∙ ap (λ o. option_map_or (λ v. fold step (fold step c (make row)) (make (q, v))) o (fold step c (make row))) none
           ∙ ap (λ k. fold step c (make (k, row.1))) (sym is)
       go false missed further = further ∙ ap (λ d. option_map_or (λ v. fold step d (make (q, v))) (row_at cmp rows q) d) (quiet row c missed)
+
+module _ {K W E C : Type 0} {cmp : K → K → Ordering} (order : KeyOrder cmp) (step : C → E → C) (make : K × W → E) (act : W → C → C) (q : K)
+    (acts : (row : K × W) (c : C) → step c (make row) ≡ cond (is_at (cmp q) row.0) (act row.1 c) c) where
+  -- one step for each row does what the step for the row of the key does
+  pub fold-each : (rows : List (K × W)) → RowsRise cmp rows → (c : C) → fold step c (map make rows) ≡ option_map_or (λ v. act v c) (row_at cmp rows q) c
+  fold-each [] rise c = refl
+  fold-each (row ∷ rows) rise c = ap (λ d. fold step d (map make rows)) (acts row c) ∙ go (is_at (cmp q) row.0) refl (λ d. fold-each rows (rise_tail cmp row rows rise) d)
+    where
+      go : (b : Bool) → is_at (cmp q) row.0 ≡ b → ((d : C) → fold step d (map make rows) ≡ option_map_or (λ v. act v d) (row_at cmp rows q) d)
+          → fold step (cond b (act row.1 c) c) (map make rows) ≡ option_map_or (λ v. act v c) (cond b (Some row.1) (row_at cmp rows q)) c
+      go true at further =
+          let none = ap (row_at cmp rows) (at_same order q row.0 at) ∙ row_at_below order row rows rise in
+          further (act row.1 c) ∙ ap (λ o. option_map_or (λ v. act v (act row.1 c)) o (act row.1 c)) none
+      go false off further = further c
