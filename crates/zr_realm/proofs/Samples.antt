@@ -29,32 +29,32 @@ use Rattle.zr_realm.specs.Refusals.{refusal}
 use Rattle.zr_realm.specs.Effects.{after_command}
 use Rattle.zr_realm.specs.Checks.{ids_of, resolved, stored_texts}
 
-abbrev ann : UserId
+abbrev pub ann : UserId
 ann = record { 0 = 1 }
 
-abbrev bob : UserId
+abbrev pub bob : UserId
 bob = record { 0 = 2 }
 
-abbrev nobody : UserId
+abbrev pub nobody : UserId
 nobody = record { 0 = 9 }
 
-abbrev lab : StreamId
+abbrev pub lab : StreamId
 lab = record { 0 = 1 }
 
-abbrev den : StreamId
+abbrev pub den : StreamId
 den = record { 0 = 2 }
 
-abbrev one : MessageId
+abbrev pub one : MessageId
 one = record { 0 = 1 }
 
-abbrev two : MessageId
+abbrev pub two : MessageId
 two = record { 0 = 2 }
 
 -- a command with its actor
-abbrev Asked : Type 0
+abbrev pub Asked : Type 0
 Asked = UserId × Command
 
-abbrev sample : List Asked
+abbrev pub sample : List Asked
 sample =
     (record { 0 = 0 }, People (of_people.UserAdd (codes "ann@x.org") (codes "Ann") role.Owner (codes "k1")))
     ∷ (ann, People (of_people.UserAdd (codes "bob@x.org") (codes "Bob") role.Member (codes "k2")))
@@ -66,14 +66,14 @@ sample =
     ∷ (ann, Posts (of_posts.SendStream (ref.Name (codes "lab")) (codes "t") (codes "two")))
     ∷ []
 
-abbrev with_asked : RealmState → Asked → RealmState
+abbrev pub with_asked : RealmState → Asked → RealmState
 with_asked state asked = after_command asked.0 0 asked.1 state
 
 -- the realm after the first n commands
-abbrev after : List Asked → RealmState
+abbrev pub after : List Asked → RealmState
 after commands = fold with_asked opening_state commands
 
-abbrev realm : RealmState
+abbrev pub realm : RealmState
 realm = after sample
 
 -- none of the commands is refused
@@ -143,16 +143,16 @@ flags_twice : refusal (with_asked realm (bob, Marks (of_marks.Flags true flag.Re
 flags_twice = refl
 
 -- what a command of an actor makes of this realm
-abbrev made : UserId → Command → RealmState
+abbrev pub made : UserId → Command → RealmState
 made actor command = with_asked realm (actor, command)
 
-abbrev gus : UserId
+abbrev pub gus : UserId
 gus = record { 0 = 3 }
 
-abbrev arc : StreamId
+abbrev pub arc : StreamId
 arc = record { 0 = 3 }
 
-abbrev three : MessageId
+abbrev pub three : MessageId
 three = record { 0 = 3 }
 
 abbrev place_at : RealmState → MessageId → Option Place
@@ -171,7 +171,7 @@ user_update = refl
 user_role : role_of (made ann (People (of_people.UserRole bob role.Guest))).tables bob ≡ Some role.Guest
 user_role = refl
 
-abbrev without_bob : RealmState
+abbrev pub without_bob : RealmState
 without_bob = made ann (People (of_people.UserDeactivate bob))
 
 user_deactivate : is_active_user without_bob.tables bob ≡ false
@@ -189,7 +189,7 @@ stream_update = refl
 stream_privacy : option_map (λ row. row.privacy) (stream_at (made ann (Streams (of_streams.SetPrivacy lab privacy.Shared))).tables lab) ≡ Some privacy.Shared
 stream_privacy = refl
 
-abbrev left : RealmState
+abbrev pub left : RealmState
 left = made bob (Streams (of_streams.Unsubscribe den bob))
 
 unsubscribe : is_subscribed left.tables bob den ≡ false
@@ -226,7 +226,7 @@ flags : map (λ row. row.1.starred) (made bob (Marks (of_marks.Flags true flag.S
     ≡ false ∷ false ∷ false ∷ true ∷ []
 flags = refl
 
-abbrev with_reaction : RealmState
+abbrev pub with_reaction : RealmState
 with_reaction = made bob (Marks (of_marks.ReactionAdd one (codes "tada")))
 
 reaction_add : reaction_of with_reaction.tables bob one (codes "tada") ≡ Some tt
@@ -236,7 +236,7 @@ reaction_remove : length (with_asked with_reaction (bob, Marks (of_marks.Reactio
 reaction_remove = refl
 
 -- a guest sees a public stream only when subscribed
-abbrev with_guest : RealmState
+abbrev pub with_guest : RealmState
 with_guest = made ann (People (of_people.UserAdd (codes "gus@x.org") (codes "Gus") role.Guest (codes "k3")))
 
 guest_outside : sees_stream with_guest.tables gus lab ≡ false
@@ -246,7 +246,7 @@ guest_subscribed : sees_stream (with_asked with_guest (ann, Streams (of_streams.
 guest_subscribed = refl
 
 -- a subscriber of a protected stream doesn't see what was sent before
-abbrev with_protected : RealmState
+abbrev pub with_protected : RealmState
 with_protected =
     fold with_asked realm
     ((ann, Streams (of_streams.Create (codes "arc") [] privacy.Protected))
@@ -261,7 +261,7 @@ late_subscriber : sees_message with_protected.tables bob three ≡ false
 late_subscriber = refl
 
 -- nobody sees an archived stream, nor its messages
-abbrev archived : RealmState
+abbrev pub archived : RealmState
 archived = made ann (Streams (of_streams.Archive lab))
 
 archived_stream : sees_stream archived.tables ann lab ≡ false
@@ -271,7 +271,7 @@ archived_message : sees_message archived.tables ann one ≡ false
 archived_message = refl
 
 -- a direct message is seen by its sender and its recipients
-abbrev direct : RealmState
+abbrev pub direct : RealmState
 direct = with_asked with_guest (bob, Posts (of_posts.SendDm (ann ∷ []) (codes "psst")))
 
 seen_by : map (λ user. sees_message direct.tables user three) (ann ∷ bob ∷ gus ∷ nobody ∷ []) ≡ true ∷ true ∷ false ∷ false ∷ []

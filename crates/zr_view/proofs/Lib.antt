@@ -1,4 +1,5 @@
 pub mod NestedLemmas
+mod Samples
 pub mod SiftedLemmas
 pub mod TurnedLemmas
 pub mod ViewLemmas
