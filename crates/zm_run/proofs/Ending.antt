@@ -1,19 +1,17 @@
 -- How a run goes on, and how it ends.
-use Rattle.std.proofs.Common.{◌≡◌, ℕ, ◌+◌, ◌-◌, ◌<◌, ◌≤◌, Option, Result, Ok, Err, MatchResult, List, [], ◌∷◌, ◌++◌, ◌⊎◌, length, take, drop, refl, sym, ap, subst, ◌∙◌, inl, inr, append_assoc, append-nil, length-append, arith}
+use Rattle.std.proofs.Common.{◌≡◌, ℕ, ◌+◌, ◌≤◌, Option, Result, Ok, Err, MatchResult, List, [], ◌++◌, ◌⊎◌, length, take, drop, refl, sym, ap, subst, ◌∙◌, inl, inr, append_assoc, append-nil, length-append, arith}
 use Rattle.std.proofs.lemmas.List.{take-append-drop}
 use Rattle.ev_ports.specs.Ports.{Gains, Gains-chain, Gains-nothing, IsSpent, Loses, Loses-chain, Loses-nothing, PutsAll}
-use Rattle.ev_ports.specs.declared.writing.Written.{Written}
-use Rattle.ev_ports.specs.declared.writing.Written.TheVariants.{All, Failed}
+use Rattle.ev_ports.specs.declared.writing.Written.TheVariants.{Failed}
 use Rattle.zm_text.specs.Texts.{HasText}
 use Rattle.zm_run.specs.declared.input.Input.{Input}
 use Rattle.zm_run.specs.declared.runner.Runner.{Runner}
 use Rattle.zm_run.specs.declared.runner.Stop.{Stop}
 use Rattle.zm_run.specs.declared.runner.Stop.TheVariants.{BadLine, NoMemory}
-use Rattle.zm_run.specs.declared.status.Status.{Status}
 use Rattle.zm_run.specs.declared.status.Status.TheVariants as status
-use Rattle.zm_run.specs.Inputs.{AreLines, HasNoFeed, Splits, SplitsWhole, bytes_of}
-use Rattle.zm_run.specs.Ends.{IsEnd, ReadAll, ReadSome, ReadToBadLine, Replays, WroteSome, shards}
-use Rattle.zm_run.specs.Running.{Fills, Grows, HasPlayed, PlayedOn, PlayedToEnd, Running, ScriptsAreSound, Stands, StaysAsItWas, StoppedIn, pending_of}
+use Rattle.zm_run.specs.Inputs.{AreLines, HasNoFeed, SplitsWhole, bytes_of}
+use Rattle.zm_run.specs.Ends.{ReadSome, Replays, WroteSome, shards}
+use Rattle.zm_run.specs.Running.{Grows, PlayedOn, PlayedToEnd, Running, ScriptsAreSound, Stands, StaysAsItWas, StoppedIn, pending_of}
 use Rattle.zm_run.specs.Stops.{status_of}
 use Rattle.zm_run.proofs.Feeds.{lines_within}
 use Rattle.zm_run.proofs.Told.{told_nothing}

@@ -1,6 +1,6 @@
 -- The text of a script grows line by line.
-use Rattle.std.proofs.Common.{◌≡◌, ℕ, List, [], ◌∷◌, ◌++◌, ◌⊎◌, length, refl, sym, ap, subst, ◌∙◌, inl, inr, append_assoc, arith}
-use Rattle.zw_lines.specs.Histories.{History, IsFedHistory, IsLegalHistory, opening_history}
+use Rattle.std.proofs.Common.{ℕ, List, [], ◌∷◌, ◌++◌, refl, ap, inl, inr, arith}
+use Rattle.zw_lines.specs.Histories.{History, IsFedHistory, opening_history}
 use Rattle.zw_world.specs.Worlds.{WorldState, WorldStands}
 use Rattle.zs_script.specs.declared.step.Step.{Step}
 use Rattle.zs_script.specs.declared.step.Step.TheVariants.{Command, NoticeAll, Push, Register, Poll}
@@ -8,8 +8,7 @@ use Rattle.zs_script.specs.Grammar.{IsPassedOver, Spells}
 use Rattle.zm_text.specs.declared.outcome.Outcome.{Outcome}
 use Rattle.zm_text.specs.Outcomes.{text_of_outcome}
 use Rattle.zm_text.specs.Playing.{Turn, IsPlayed}
-use Rattle.zm_text.specs.Headline.{Promises}
-use Rattle.zm_text.specs.Texts.{HasText, text_of}
+use Rattle.zm_text.specs.Texts.{HasText}
 use Rattle.zm_play.specs.Played.{NamesAShard, Played}
 use Rattle.zm_run.specs.Ends.{shards}
 use Rattle.zm_run.specs.Running.{ScriptsAreSound, Stands}

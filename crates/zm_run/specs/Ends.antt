@@ -1,5 +1,5 @@
 -- What was read and what was written belong together, whichever way a run ended.
-use Rattle.std.specs.Prelude.{◌≡◌, ℕ, ◌+◌, ◌⊎◌, Option, List, [], ◌∷◌, ◌++◌, length}
+use Rattle.std.specs.Prelude.{◌≡◌, ℕ, ◌+◌, ◌⊎◌, Option, List, [], ◌++◌, length}
 use Rattle.ev_ports.specs.Ports.{Loses, Gains, IsSpent}
 use Rattle.zm_text.specs.Texts.{HasText}
 use Rattle.zm_run.specs.declared.status.Status.{Status}

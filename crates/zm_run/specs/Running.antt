@@ -1,12 +1,12 @@
 -- A run on its way: what was read and played so far, and what is yet to be played and written.
-use Rattle.std.specs.Prelude.{◌≡◌, ℕ, ◌+◌, ◌<◌, ◌≤◌, ◌⊎◌, Option, List, [], ◌∷◌, ◌++◌, length, take}
+use Rattle.std.specs.Prelude.{◌≡◌, ℕ, ◌+◌, ◌<◌, ◌≤◌, ◌⊎◌, Option, List, [], ◌++◌, length, take}
 use Rattle.ev_ports.specs.Ports.{Loses, Gains, IsSpent}
 use Rattle.ev_ports.specs.declared.reading.Took.{Took}
 use Rattle.ev_ports.specs.declared.reading.Took.TheVariants.{Bytes, End, Failed}
 use Rattle.zw_lines.specs.Histories.{History, IsLegalHistory, IsFedHistory}
 use Rattle.zw_world.specs.Worlds.{WorldState, WorldStands}
 use Rattle.zs_script.specs.declared.step.Step.{Step}
-use Rattle.zs_script.specs.Grammar.{IsNoStep, IsPassedOver, Spells}
+use Rattle.zs_script.specs.Grammar.{IsNoStep}
 use Rattle.zm_text.specs.declared.outcome.Outcome.{Outcome}
 use Rattle.zm_text.specs.Outcomes.{text_of_outcome}
 use Rattle.zm_text.specs.Playing.{Turn, IsPlayed}

@@ -103,9 +103,9 @@ impl Runner {
     }
 
     /// Plays a last line that lacks its feed, where there is one, and hands the output over.
-    pub fn finish<K: Sink>(&mut self, alloc: Global, input: &Input, sink: &mut K) -> Status
-        requires few { self.old.lines ≤ input.now.read }
-        ensures ends { (left left' held : Option (List ℕ)) → Running left left' held (K.held sink.old) self.old input.now
+    pub fn finish<K: Sink>(mut self, alloc: Global, input: &Input, sink: &mut K) -> Status
+        requires few { self.lines ≤ input.now.read }
+        ensures ends { (left left' held : Option (List ℕ)) → Running left left' held (K.held sink.old) self input.now
             → HasNoFeed (pending_of input.now) → IsSpent left' → Replays result left left' held (K.held sink.new) }
         ensures caused { IsCaused result ⊥ (Rose (K.faults sink.old) (K.faults sink.new)) }
         ensures count { K.faults sink.old ≤ K.faults sink.new }

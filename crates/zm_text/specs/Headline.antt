@@ -9,9 +9,9 @@ use Rattle.zw_lines.specs.Tables.{is_active_user}
 use Rattle.zw_lines.specs.RealmLine.{Accepted, tables_after, view_after}
 use Rattle.zw_lines.specs.ShardLine.{same_queue, count_of}
 use Rattle.zs_script.specs.declared.step.Step.{Step}
-use Rattle.zs_script.specs.declared.step.Step.TheVariants.{Command, NoticeAll, Push, Register, Poll}
+use Rattle.zs_script.specs.declared.step.Step.TheVariants.{Command, Register, Poll}
 use Rattle.zm_text.specs.declared.outcome.Outcome.{Outcome}
-use Rattle.zm_text.specs.declared.outcome.Outcome.TheVariants.{Committed, Refused, Noticed, Pushed, Finished, OpensSpent, TooManyQueues, FetchRefused, Answered, Empty, BadQueue, NotSent, Pruned}
+use Rattle.zm_text.specs.declared.outcome.Outcome.TheVariants.{Committed, Finished, Answered, Empty}
 use Rattle.zm_text.specs.Playing.{Turn}
 
 -- the commands whose line of output says committed, the latest first

@@ -1,8 +1,7 @@
 -- What the lines of a script ask of a realm and its shards, and what is printed for them.
-use Rattle.std.specs.Prelude.{◌≡◌, ℕ, ◌+◌, ◌≤◌, ◌<◌, List, [], ◌∷◌, ◌++◌, length, ◌⊎◌, ℤ}
+use Rattle.std.specs.Prelude.{◌≡◌, ℕ, ◌+◌, ◌≤◌, ◌<◌, List, [], ◌∷◌, length, ◌⊎◌, ℤ}
 use Rattle.ev_base.specs.declared.ids.UserId.{UserId}
 use Rattle.ev_base.specs.declared.ids.QueueId.{QueueId}
-use Rattle.zw_lines.specs.declared.people.Command.{Command as CommandOf}
 use Rattle.zw_lines.specs.declared.people.Notice.{Notice}
 use Rattle.zw_lines.specs.declared.realm.RealmInput.TheVariants as realm
 use Rattle.zw_lines.specs.declared.realm.RealmReply.TheVariants as realm_reply

@@ -1,6 +1,5 @@
-use Rattle.std.proofs.Common.{◌≤◌, arith, subst, sym}
+use Rattle.std.proofs.Common.{arith, subst, sym}
 use Rattle.zm_run.specs.Inputs.{HasNoFeed}
-use Rattle.zm_run.specs.Running.{Running}
 use Rattle.zm_run.proofs.Ending.{ends_at_fault, ends_at_first, lines_counted, running_after_read, running_unread}
 use Rattle.zm_run.proofs.replay.replay.Goals as goal
 

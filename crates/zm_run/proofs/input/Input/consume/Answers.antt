@@ -1,4 +1,4 @@
-use Rattle.std.proofs.Common.{◌≡◌, ◌≤◌, length, drop, take, ◌-◌, ap, ◌∙◌, arith}
+use Rattle.std.proofs.Common.{take, ◌-◌, ap, ◌∙◌, arith}
 use Rattle.std.proofs.lemmas.List.{length-take}
 use Rattle.zm_run.proofs.Feeds.{consumed}
 use Rattle.zm_run.proofs.input.Input.consume.Goals as goal

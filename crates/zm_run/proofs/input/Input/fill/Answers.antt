@@ -1,6 +1,5 @@
-use Rattle.std.proofs.Common.{◌≡◌, ◌≤◌, length, ◌<◌, drop, take, ◌+◌, ◌-◌, ◌++◌, ap, ◌∙◌, subst, sym, arith}
+use Rattle.std.proofs.Common.{◌≡◌, ◌≤◌, length, take, ◌+◌, ◌++◌, ap, ◌∙◌, sym, arith}
 use Rattle.std.proofs.lemmas.List.{length-take-le}
-use Rattle.zm_run.specs.Running.{Fills, Grows, pending_of}
 use Rattle.zm_run.proofs.Feeds.{filled}
 use Rattle.zm_run.proofs.input.Input.fill.Goals as goal
 

@@ -1,5 +1,5 @@
 use Rattle.std.proofs.Common.{[], refl, sym, subst}
-use Rattle.zm_run.specs.Running.{HasPlayed, Stands}
+use Rattle.zm_run.specs.Running.{Stands}
 use Rattle.zm_run.proofs.Told.{stands_at_first}
 use Rattle.zm_run.proofs.runner.Runner.new.Goals as goal
 

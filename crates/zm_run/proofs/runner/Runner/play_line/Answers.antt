@@ -1,9 +1,8 @@
-use Rattle.std.proofs.Common.{◌≡◌, ℕ, ◌+◌, List, None, Some, MatchOption, ap, arith}
+use Rattle.std.proofs.Common.{None, Some, MatchOption, ap, arith}
 use Rattle.zs_script.specs.declared.step.Step.{Step}
 use Rattle.zs_script.specs.Grammar.{IsPassedOver, Spells}
 use Rattle.zm_run.specs.declared.runner.Runner.{Runner}
 use Rattle.zm_run.specs.Inputs.{IsLine}
-use Rattle.zm_run.specs.Running.{HasPlayed}
 use Rattle.zm_run.proofs.Playing.{passes_line, plays_line}
 use Rattle.zm_run.proofs.runner.Runner.play_line.Goals as goal
 use Rattle.zm_run.proofs.runner.Runner.play_line.Goals.{in-Some+in_ok-play_step, in_default}

@@ -1,4 +1,4 @@
-use Rattle.std.proofs.Common.{◌≡◌, ◌≢◌, ℕ, List, [], length, ap, ◌==◌, ◌∙◌, arith}
+use Rattle.std.proofs.Common.{◌≢◌, [], length, ap, ◌==◌, ◌∙◌}
 use Rattle.std.proofs.lemmas.Bool.{false≢true}
 use Rattle.zm_run.proofs.Playing.{rest_played}
 use Rattle.zm_run.proofs.runner.Runner.play_rest.Goals as goal
