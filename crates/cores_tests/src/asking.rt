@@ -1,6 +1,6 @@
 //! What the tests ask for, and what a realm and a shard answer, in few words.
 
-use ev_base::{Listed, PlainText, QueueId, Role, UserId};
+use ev_base::{Listed, PlainText, QueueId, Role, RowList, UserId};
 use std::alloc::{AllocError, Global};
 use std::fmt::Debug;
 use std::process::Abort;
@@ -84,7 +84,7 @@ pub fn told_by_shard(alloc: Global, reply: &ShardReply) -> Result<String, Fail> 
     }
 }
 
-fn section(alloc: Global, rows: &Listed<(UserId, Person)>, at: u64) -> Result<String, Fail> {
+fn section(alloc: Global, rows: &RowList<UserId, Person>, at: u64) -> Result<String, Fail> {
     let mut told = format!(in alloc; "at {at}:")?;
     tell_rows(&mut told, rows)?;
     Ok(told)
@@ -98,7 +98,7 @@ fn notices(alloc: Global, first: u64, list: &Listed<Notice>) -> Result<String, F
 
 fn finished(
     alloc: Global,
-    rows: &Listed<(UserId, Person)>,
+    rows: &RowList<UserId, Person>,
     last_event_id: i64,
     reached: u64,
 ) -> Result<String, Fail> {
@@ -113,8 +113,8 @@ fn answer(alloc: Global, items: &Listed<Item>, reached: u64) -> Result<String, F
     Ok(told)
 }
 
-fn tell_rows(told: &mut String, rows: &Listed<(UserId, Person)>) -> Result<(), Fail> {
-    for (user, person) in rows.as_slice() {
+fn tell_rows(told: &mut String, rows: &RowList<UserId, Person>) -> Result<(), Fail> {
+    for (user, person) in rows.rows() {
         write!(told, " {user} {}", person.full_name.as_str())?;
     }
     Ok(())

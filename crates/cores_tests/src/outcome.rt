@@ -2,7 +2,7 @@
 
 use crate::asking::QUEUE;
 use crate::checks::check_text;
-use ev_base::{Listed, NoMemory};
+use ev_base::{Keyed, Listed, NoMemory, RowList};
 use std::alloc::Global;
 use std::test::Fail;
 use zm_text::Outcome;
@@ -23,7 +23,7 @@ fn print_finished(alloc: Global) -> Result<Vec<u8>, NoMemory> {
         reached: 1,
         queue: QUEUE,
         last_event_id: -1,
-        rows: Listed::from_vec(Vec::new(alloc)),
+        rows: RowList::from(Keyed::new(alloc)),
     };
     print(alloc, &[finished])
 }

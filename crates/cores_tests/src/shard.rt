@@ -1,7 +1,7 @@
 //! A shard is asked step by step.
 
 use crate::asking::{ANN, QUEUE, ann, text, told_by_shard};
-use ev_base::{Listed, UserId};
+use ev_base::{Keyed, Listed, RowList, UserId};
 use std::alloc::Global;
 use std::process::Abort;
 use std::test::Fail;
@@ -59,8 +59,13 @@ fn push(
 
 fn finish(shard: &mut ShardCore, alloc: Global) -> Result<ShardReply, Fail> {
     let queue = QUEUE;
-    let rows = Listed::from_vec(vec![in alloc; (ANN, ann(alloc)?)]?);
-    let part = Part { rows, at: 0 };
+    let mut rows = Keyed::new(alloc);
+    rows.reserve(1)?;
+    rows.put(ANN, ann(alloc)?);
+    let part = Part {
+        rows: RowList::from(rows),
+        at: 0,
+    };
     Ok(shard.step(alloc, ShardInput::Finish { queue, part }))
 }
 

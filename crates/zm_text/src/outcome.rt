@@ -3,7 +3,7 @@
 ghost use Rattle.std.specs.Prelude.{◌≡◌, ◌++◌, IfOk, IfSome, OnErr, OnOk};
 ghost use Rattle.zm_text.specs.Outcomes.{and_then, committed_text, line_of, refusal_text, text_of_outcome, with_body};
 
-use ev_base::{Listed, NoMemory, QueueId, UserId};
+use ev_base::{Listed, NoMemory, QueueId, RowList, UserId};
 use ev_wire::{write_events, write_register};
 use std::alloc::Global;
 use std::fmt::Display;
@@ -27,7 +27,7 @@ pub enum Outcome {
         reached: u64,
         queue: QueueId,
         last_event_id: i64,
-        rows: Listed<(UserId, Person)>,
+        rows: RowList<UserId, Person>,
     },
     OpensSpent,
     TooManyQueues,
@@ -76,7 +76,7 @@ impl Outcome {
                 last_event_id,
                 rows,
             } => {
-                let body = write_register(alloc, queue, *last_event_id, rows.as_slice())?;
+                let body = write_register(alloc, queue, *last_event_id, rows.rows())?;
                 body_line(alloc, "finished", *reached, &body)
             }
             Outcome::OpensSpent => text_line(alloc, "opens_spent"),

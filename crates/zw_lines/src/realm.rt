@@ -1,7 +1,7 @@
 //! What a realm may be asked and may answer.
 
 use crate::people::{Command, Notice, Person, Refusal};
-use ev_base::{Listed, UserId};
+use ev_base::{Listed, RowList, UserId};
 
 /// What a realm may be asked.
 #[derive(Debug, Drop)]
@@ -27,7 +27,7 @@ pub enum RealmReply {
     Refused(Refusal),
     /// The section, as of so many commits.
     Section {
-        rows: Listed<(UserId, Person)>,
+        rows: RowList<UserId, Person>,
         at: u64,
     },
     FetchRefused,

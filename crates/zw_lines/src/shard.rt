@@ -1,12 +1,12 @@
 //! What a shard may be asked and may answer.
 
 use crate::people::{Item, Notice, Person};
-use ev_base::{Listed, QueueId, UserId};
+use ev_base::{Listed, QueueId, RowList, UserId};
 
 /// A fetched section, with the number of commits at its fetch.
 #[derive(Debug, Drop)]
 pub struct Part {
-    pub rows: Listed<(UserId, Person)>,
+    pub rows: RowList<UserId, Person>,
     pub at: u64,
 }
 
@@ -59,7 +59,7 @@ pub enum ShardReply {
         first: u64,
     },
     Finished {
-        rows: Listed<(UserId, Person)>,
+        rows: RowList<UserId, Person>,
         last_event_id: i64,
         reached: u64,
     },

@@ -1,10 +1,10 @@
 -- What a view shows where one row is put.
 use Rattle.std.proofs.Common.{◌≡◌, ℕ, false, List, [], ◌∷◌, ◌++◌, map, ap, ap₂, sym, subst, refl, ◌∙◌, bytes_eq, Option, None, Some, option_map}
 use Rattle.std.specs.BTreeMap.{insert_entry, is_at}
-use Rattle.std.proofs.lemmas.Map.Made.{lookup-map_values}
+use Rattle.std.proofs.lemmas.Map.Made.{keys_of-map_values, lookup-map_values}
 use Rattle.std.specs.Cmp.Lexicographic.{bytes_decides}
 use Rattle.std.specs.List.Sorted.{IsStrictlySortedBy}
-use Rattle.ev_rows.specs.Rows.{AgreeBut, RowsRise, keys_of, row_at, fresh, both_of, one_row, made_of}
+use Rattle.ev_rows.specs.Rows.{AgreeBut, RowsRise, row_at, fresh, both_of, one_row, made_of}
 use Rattle.ev_rows.proofs.RiseLemmas.{rise-insert_entry}
 use Rattle.ev_rows.proofs.RowLemmas.{AgreeBut-insert_entry, at_itself, row_at-insert_entry}
 use Rattle.ev_rows.proofs.ChangeLemmas.{gained_at, kept_at}
@@ -40,13 +40,13 @@ changes_at before after user rise agree =
     (ap (map (λ row. UserAdd row.0 row.1)) (gained_at user_order before after user rise agree))
     (kept_at user_order person_changes quiet before after user rise agree)
 
+-- the rows that a view shows rise as the users do
+pub shown_rise : (users : Tables) → RowsRise user_cmp users → RowsRise user_cmp (map (λ row. (row.0, shown_user row.1)) users)
+shown_rise users rise = subst (λ (keys : List UserId). IsStrictlySortedBy user_cmp keys) (sym (keys_of-map_values shown_user users)) rise
+
 module _ (reader : UserId) where
   row_at-view : (users : Tables) (user : UserId) → row_at user_cmp (view_of reader users) user ≡ option_map shown_user (user_at users user)
   row_at-view users user = lookup-map_values shown_user (is_at (user_cmp user)) users
-
-  keys_of-view : (users : Tables) → keys_of (view_of reader users) ≡ keys_of users
-  keys_of-view [] = refl
-  keys_of-view (row ∷ users) = ap (λ keys. row.0 ∷ keys) (keys_of-view users)
 
   -- what a view shows of a row that is put
   changes_put : (users : Tables) (user : UserId) (row : User) → RowsRise user_cmp users
@@ -57,12 +57,9 @@ module _ (reader : UserId) where
       let rises = rise-insert_entry user_order.total user row users rise in
       let here : user_at after user ≡ Some row = row_at-insert_entry user_order users user row user ∙ rw (at_itself user_order user) refl in
       changes_at (view_of reader users) (view_of reader after) user
-      (view_rises after rises)
+      (shown_rise after rises)
       (λ q off. row_at-view after q ∙ ap (option_map shown_user) (AgreeBut-insert_entry user_order users user row q off) ∙ sym (row_at-view users q))
       ∙ ap₂ (events_of user) (row_at-view users user) (row_at-view after user ∙ ap (option_map shown_user) here)
-    where
-      view_rises : (tables : Tables) → RowsRise user_cmp tables → RowsRise user_cmp (view_of reader tables)
-      view_rises tables table_rises = subst (λ (keys : List UserId). IsStrictlySortedBy user_cmp keys) (sym (keys_of-view tables)) table_rises
 
   -- another name of a user is told with the name
   named : (users : Tables) (user : UserId) (old row : User) → RowsRise user_cmp users → user_at users user ≡ Some old

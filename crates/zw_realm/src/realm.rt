@@ -9,7 +9,7 @@ ghost use Rattle.zw_realm.specs.RealmMoves.{IsAcceptable, Moves, TakesEffect, ta
 ghost use Rattle.zw_realm.specs.RealmStanding.{IsProper, RealmStands};
 
 use crate::change::{Change, shown};
-use ev_base::{Keyed, Listed, NoMemory, PlainText, UserId};
+use ev_base::{Keyed, Listed, NoMemory, PlainText, RowList, UserId};
 use std::alloc::Global;
 use std::marker::Model;
 use zw_lines::{Command, Notice, Person, RealmInput, RealmReply, Refusal, User};
@@ -101,9 +101,9 @@ impl RealmCore {
         if !self.is_active(user) {
             return RealmReply::FetchRefused;
         }
-        match shown_rows(alloc, self.users.rows()) {
+        match shown_rows(alloc, &self.users) {
             Ok(rows) => RealmReply::Section {
-                rows: Listed::from_vec(rows),
+                rows,
                 at: self.notices.len() as u64,
             },
             Err(NoMemory) => RealmReply::NoMemory,
@@ -255,14 +255,17 @@ impl RealmCore {
 }
 
 // The rows as all see them.
-fn shown_rows(alloc: Global, users: &[(UserId, User)]) -> Result<Vec<(UserId, Person)>, NoMemory>
-    ensures { IfOk result (λ rows. rows.items ≡ map (λ row. (row.0, shown_user row.1)) users.now) }
+fn shown_rows(
+    alloc: Global,
+    users: &Keyed<UserId, User>,
+) -> Result<RowList<UserId, Person>, NoMemory>
+    ensures { IfOk result (λ rows. rows ≡ map (λ row. (row.0, shown_user row.1)) users.now.rows) }
 {
     let mut rows = Vec::with_capacity(alloc, users.len())?;
-    for (user, row) in users {
+    for (user, row) in users.rows() {
         rows.push((*user, shown(row)?))?;
     }
-    Ok(rows)
+    Ok(RowList::from_vec(rows))
 }
 
 fn copied(alloc: Global, notice: &Notice) -> Result<Notice, NoMemory>

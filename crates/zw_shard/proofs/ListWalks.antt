@@ -1,50 +1,16 @@
 -- Facts that walks over lists keep: what was passed, and what is found at a place.
-use Rattle.std.proofs.Common.{◌≡◌, ℕ, zero, suc, ◌+◌, ◌<◌, Bool, true, false, List, [], ◌∷◌, ◌++◌, length, map, get_or, set, remove, drop, Less, Equal, Greater, Ordering, None, Some, refl, ap, sym, ◌∙◌, arith, add-one, cond, pos, take, ◌-◌, ◌≤◌, nat_lt, inl, length-take}
+use Rattle.std.proofs.Common.{◌≡◌, ℕ, zero, suc, ◌+◌, ◌<◌, Bool, true, false, List, [], ◌∷◌, ◌++◌, length, map, get_or, set, remove, drop, None, Some, refl, ap, sym, ◌∙◌, arith, add-one, cond, pos, take, ◌-◌, ◌≤◌, nat_lt, inl, length-take}
 use Rattle.std.proofs.lemmas.List.{drop-take, take_more}
 use Rattle.std.proofs.lemmas.Bool.{lt-ltb}
 use Rattle.zw_lines.specs.declared.people.Item.{Item}
 use Rattle.zw_lines.specs.declared.shard.ShardReply.TheVariants.{Answer}
 use Rattle.ev_base.specs.declared.ids.UserId.{UserId}
 use Rattle.ev_base.specs.declared.ids.QueueId.{QueueId}
-use Rattle.ev_rows.specs.Place.{IsFoundAt, IsGapAt}
 use Rattle.zw_lines.specs.declared.people.Event.{Event}
 use Rattle.zw_lines.specs.declared.people.Notice.{Notice}
 use Rattle.zw_lines.specs.ShardLine.{numbered, same_queue, same_user}
 use Rattle.zw_shard.specs.ShardStanding.{AreNumbered, QueueState, find_queue}
 use Rattle.zw_shard.specs.ShardData.{IsQueueAt, QueueAnswers, StagedQueue, got, seen, settled, with_open, with_queue, with_staged, with_told, without_queue}
-
--- the key is above those of the rows before this place
-abbrev pub IsAboveTo : {K V : Type 0} → (K → Ordering) → List (K × V) → ℕ → Type 0
-IsAboveTo compare rows zero = Unit {0}
-IsAboveTo compare [] (suc at) = Unit {0}
-IsAboveTo compare (row ∷ rows) (suc at) = (compare row.0 ≡ Greater) × IsAboveTo compare rows at
-
-module _ {K V : Type 0} (compare : K → Ordering) where
-  above_more : (rows : List (K × V)) (at : ℕ) (row : K × V) → row ≡ get_or rows at row → compare row.0 ≡ Greater
-      → IsAboveTo compare rows at → IsAboveTo compare rows (suc at)
-  above_more [] at row is above before = tt
-  above_more (first ∷ rows) zero row is above before = (ap (λ (r : K × V). compare r.0) (sym is) ∙ above, tt)
-  above_more (first ∷ rows) (suc at) row is above before = (before.0, above_more rows at row is above before.1)
-
-  pub above-more : (rows : List (K × V)) (at : ℕ) (row : K × V) → row ≡ get_or rows at row → compare row.0 ≡ Greater
-      → IsAboveTo compare rows at → IsAboveTo compare rows (at + 1)
-  above-more rows at row is above before = rw add-one (above_more rows at row is above before)
-
-  pub above-found : (rows : List (K × V)) (at : ℕ) (row : K × V) → row ≡ get_or rows at row → at < length rows → compare row.0 ≡ Equal
-      → IsAboveTo compare rows at → IsFoundAt compare rows at
-  above-found [] at row is within equal before = absurd (omega arith)
-  above-found (first ∷ rows) zero row is within equal before = ap (λ (r : K × V). compare r.0) (sym is) ∙ equal
-  above-found (first ∷ rows) (suc at) row is within equal before = (before.0, above-found rows at row is (omega arith) equal before.1)
-
-  pub above-gap : (rows : List (K × V)) (at : ℕ) (row : K × V) → row ≡ get_or rows at row → at < length rows → compare row.0 ≡ Less
-      → IsAboveTo compare rows at → IsGapAt compare rows at
-  above-gap [] at row is within less before = absurd (omega arith)
-  above-gap (first ∷ rows) zero row is within less before = ap (λ (r : K × V). compare r.0) (sym is) ∙ less
-  above-gap (first ∷ rows) (suc at) row is within less before = (before.0, above-gap rows at row is (omega arith) less before.1)
-
-  pub above-end : (rows : List (K × V)) → IsAboveTo compare rows (length rows) → IsGapAt compare rows (length rows)
-  above-end [] before = tt
-  above-end (first ∷ rows) before = (before.0, above-end rows before.1)
 
 -- no queue before this place has this id
 abbrev pub IsPast : QueueId → List QueueState → ℕ → Type 0
@@ -72,11 +38,6 @@ module _ (queue : QueueId) where
   pub past-end : (queues : List QueueState) → IsPast queue queues (length queues) → find_queue queue queues ≡ None
   past-end [] before = refl
   past-end (first ∷ queues) before = let other = before.0 in rw other (past-end queues before.1)
-
-  pub at_within : (queues : List QueueState) (at : ℕ) → IsQueueAt queue queues at → at < length queues
-  at_within [] at found = absurd found
-  at_within (first ∷ queues) zero found = omega arith
-  at_within (first ∷ queues) (suc at) found = let within = at_within queues at found.1 in omega arith
 
   -- the queue that is read at that place is the one that is found
   pub find-at : (queues : List QueueState) (at : ℕ) (read : QueueState) → read ≡ get_or queues at read → IsQueueAt queue queues at

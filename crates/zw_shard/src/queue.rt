@@ -133,7 +133,7 @@ impl Queue {
                 part,
             };
         }
-        let Ok(rows) = apply_all(part.rows.into_vec(), &self.events[..self.kept]) else {
+        let Ok(rows) = apply_all(part.rows, &self.events[..self.kept]) else {
             return ShardReply::NoMemory;
         };
         let count = self.pruned + self.kept as u64;
@@ -143,7 +143,7 @@ impl Queue {
         self.events.clear();
         self.kept = 0;
         ShardReply::Finished {
-            rows: Listed::from_vec(rows),
+            rows,
             last_event_id: id_of(count),
             reached,
         }

@@ -3,4 +3,4 @@ use Rattle.zw_lines.specs.Applying.{applied}
 use Rattle.zw_shard.proofs.applying.apply_all.Given as goal
 
 abbrev pub invariant-loop-event : goal.invariant-loop-event
-invariant-loop-event l = l.rows.items ≡ applied (take l.event-index l.events) l.fn.rows.items
+invariant-loop-event l = l.table.rows ≡ applied (take l.event-index l.events) l.fn.rows
