@@ -224,7 +224,7 @@ fn add(tables: &mut Tables, alloc: Global, extra: Extra) -> Result<(), Fail> {
 fn is_sound_with(alloc: Global, extra: Extra, sent: u64) -> Result<bool, Fail> {
     let mut tables = sample_tables(alloc)?;
     add(&mut tables, alloc, extra)?;
-    Ok(realm_of(tables, sent).is_some())
+    Ok(realm_of(alloc, tables, sent)?.is_some())
 }
 
 #[test]

@@ -9,7 +9,7 @@
 //! one, before he left the lab.
 
 use ev_base::{
-    Listed, MessageId, Place, Privacy, Role, StreamId, Text, TextFault, TextKind, UserId,
+    Listed, MessageId, NoMemory, Place, Privacy, Role, StreamId, Text, TextFault, TextKind, UserId,
 };
 use std::alloc::Global;
 use std::test::Fail;
@@ -78,19 +78,19 @@ pub struct Tables {
 }
 
 pub fn sample_realm(alloc: Global) -> Result<Realm, Fail> {
-    let made = realm_of(sample_tables(alloc)?, SENT);
+    let made = realm_of(alloc, sample_tables(alloc)?, SENT)?;
     Ok(made.ok_or("the sample is sound")?)
 }
 
 /// The realm of these tables, with so many messages sent.
-pub fn realm_of(tables: Tables, sent: u64) -> Option<Realm> {
+pub fn realm_of(alloc: Global, tables: Tables, sent: u64) -> Result<Option<Realm>, NoMemory> {
     let Tables {
         people,
         streams,
         posts,
         marks,
     } = tables;
-    Realm::from_tables(people, streams, posts, marks, sent)
+    Realm::from_tables(alloc, people, streams, posts, marks, sent)
 }
 
 pub fn sample_tables(alloc: Global) -> Result<Tables, Fail> {

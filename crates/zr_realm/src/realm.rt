@@ -62,14 +62,15 @@ impl Realm {
     /// A realm of these tables, with so many messages ever sent, before any commit. There is none
     /// where they are not sound.
     pub fn from_tables(
+        alloc: Global,
         people: Users,
         streams: Streams,
         posts: Posts,
         marks: Marks,
         sent: u64,
-    ) -> Option<Realm>
-        ensures state { IfSome result (λ realm. realm.state ≡ stored_state (tables_of people streams posts marks) sent) }
-        ensures sound { IsSome result ↔ IsSound (tables_of people streams posts marks) sent }
+    ) -> Result<Option<Realm>, NoMemory>
+        ensures state { IfOk result (λ made. IfSome made (λ realm. realm.state ≡ stored_state (tables_of people streams posts marks) sent)) }
+        ensures sound { IfOk result (λ made. IsSome made ↔ IsSound (tables_of people streams posts marks) sent) }
     {
         let parts = Parts {
             people: &people,
@@ -77,10 +78,10 @@ impl Realm {
             posts: &posts,
             marks: &marks,
         };
-        if !parts.are_sound(sent) {
-            return None;
+        if !parts.are_sound(alloc, sent)? {
+            return Ok(None);
         }
-        Some(Realm {
+        Ok(Some(Realm {
             people,
             streams,
             posts,
@@ -88,7 +89,7 @@ impl Realm {
             commits: 0,
             sent,
             text_bytes: 0,
-        })
+        }))
     }
 
     /// A realm in the same state. It need not have room for more rows.

@@ -1,13 +1,15 @@
 //! Whether tables that come from elsewhere are those of a realm.
 
-ghost use Rattle.std.specs.Prelude.{◌≡◌, ◌↔◌, ℕ, ◌&&◌, true};
+ghost use Rattle.std.specs.Prelude.{◌≡◌, ◌↔◌, ℕ, Bool, ◌&&◌, List, true, IfOk};
 ghost use Rattle.std.specs.List.{list_all};
 ghost use Rattle.zr_realm.specs.Sound.{IsSound, TablesRise, is_message, is_sent, is_stream, place_stands, message_stands, reaction_stands, receipt_stands, subscription_stands};
-ghost use Rattle.zr_realm.specs.SoundTests.{count_from, emails_apart, is_sound, names_apart};
+ghost use Rattle.zr_realm.specs.SoundTests.{count_from, is_sound, rows_stand, texts_differ};
 ghost use Rattle.zr_realm.specs.Stored.{tables_in};
 ghost use Rattle.zr_realm.specs.Visibility.{is_user};
 
-use ev_base::{MessageId, Place, StreamId, UserId};
+use ev_base::{MessageId, NoMemory, Place, StreamId, Text, UserId};
+use std::alloc::Global;
+use std::collections::BTreeSet;
 use zr_marks::Marks;
 use zr_people::{User, Users};
 use zr_posts::{Message, Posts};
@@ -50,6 +52,63 @@ fn count_from_one<K: Numbered, V>(rows: &[(K, V)]) -> bool
     true
 }
 
+// A row with a text of its own: where the row counts, no other row that counts may have this text.
+trait HasOwnText {
+    ghost counts: { Self → Bool };
+
+    ghost text: { Self → List ℕ };
+
+    fn counts(&self) -> bool
+        ensures { result ≡ counts self.now };
+
+    fn text(&self) -> &Text
+        ensures { result.now ≡ text self.now };
+}
+
+impl HasOwnText for Stream {
+    ghost use Rattle.zr_realm.specs.Sound.{is_unarchived};
+
+    ghost counts = { is_unarchived };
+
+    ghost text = { λ row. row.name };
+
+    fn counts(&self) -> bool {
+        !self.archived
+    }
+
+    fn text(&self) -> &Text {
+        &self.name
+    }
+}
+
+impl HasOwnText for User {
+    ghost use Rattle.zr_realm.specs.Sound.{always};
+
+    ghost counts = { always };
+
+    ghost text = { λ row. row.email };
+
+    fn counts(&self) -> bool {
+        true
+    }
+
+    fn text(&self) -> &Text {
+        &self.email
+    }
+}
+
+fn texts_differ<K, V: HasOwnText>(alloc: Global, rows: &[(K, V)]) -> Result<bool, NoMemory>
+    ensures { IfOk result (λ differ. differ ≡ texts_differ V.counts V.text rows.now) }
+{
+    let mut seen = BTreeSet::new(alloc);
+    for row in rows {
+        if row.1.counts() && !seen.insert(row.1.text())? {
+            return Ok(false);
+        }
+    }
+    Ok(true)
+}
+
 /// The four tables of a realm to be.
 #[derive(Clone, Copy)]
 pub struct Parts<'a> {
@@ -60,13 +119,13 @@ pub struct Parts<'a> {
 }
 
 impl Parts<'_> {
-    /// Whether they are sound, with so many messages ever sent. Names and emails are compared each with each.
-    pub fn are_sound(&self, sent: u64) -> bool
-        ensures { (result ≡ true) ↔ IsSound (tables_in self.now) sent }
+    /// Whether they are sound, with so many messages ever sent.
+    pub fn are_sound(&self, alloc: Global, sent: u64) -> Result<bool, NoMemory>
+        ensures { IfOk result (λ sound. (sound ≡ true) ↔ IsSound (tables_in self.now) sent) }
     {
-        let passes = self.pass_tests(sent);
+        let passes = self.pass_tests(alloc, sent)?;
         self.tables_rise();
-        passes
+        Ok(passes)
     }
 
     fn tables_rise(&self)
@@ -80,8 +139,18 @@ impl Parts<'_> {
         self.marks.reactions_rows();
     }
 
-    fn pass_tests(&self, sent: u64) -> bool
-        ensures { result ≡ is_sound (tables_in self.now) sent }
+    fn pass_tests(&self, alloc: Global, sent: u64) -> Result<bool, NoMemory>
+        ensures { IfOk result (λ passes. passes ≡ is_sound (tables_in self.now) sent) }
+    {
+        Ok(
+            self.rows_stand(sent)
+                && texts_differ(alloc, self.streams.streams_rows())?
+                && texts_differ(alloc, self.people.users_rows())?,
+        )
+    }
+
+    fn rows_stand(&self, sent: u64) -> bool
+        ensures { result ≡ rows_stand (tables_in self.now) sent }
     {
         count_from_one(self.people.users_rows())
             && count_from_one(self.streams.streams_rows())
@@ -89,8 +158,6 @@ impl Parts<'_> {
             && self.subscriptions_stand()
             && self.receipts_stand()
             && self.reactions_stand()
-            && names_differ(self.streams.streams_rows())
-            && emails_differ(self.people.users_rows())
     }
 
     fn has_user(&self, user: UserId) -> bool
@@ -173,40 +240,4 @@ fn is_sent(sent: u64, message: MessageId) -> bool
     ensures { result ≡ is_sent sent message }
 {
     1 <= message.0 && message.0 as u64 <= sent
-}
-
-fn names_apart(a: &(StreamId, Stream), b: &(StreamId, Stream)) -> bool
-    ensures { result ≡ names_apart a.now b.now }
-{
-    a.0.0 == b.0.0 || a.1.archived || b.1.archived || a.1.name != b.1.name
-}
-
-fn names_differ(rows: &[(StreamId, Stream)]) -> bool
-    ensures { result ≡ list_all (λ row. list_all (names_apart row) rows.now) rows.now }
-{
-    rows.iter().all(|row| is_named_apart(row, rows))
-}
-
-fn is_named_apart(row: &(StreamId, Stream), rows: &[(StreamId, Stream)]) -> bool
-    ensures { result ≡ list_all (names_apart row.now) rows.now }
-{
-    rows.iter().all(|other| names_apart(row, other))
-}
-
-fn emails_apart(a: &(UserId, User), b: &(UserId, User)) -> bool
-    ensures { result ≡ emails_apart a.now b.now }
-{
-    a.0.0 == b.0.0 || a.1.email != b.1.email
-}
-
-fn emails_differ(rows: &[(UserId, User)]) -> bool
-    ensures { result ≡ list_all (λ row. list_all (emails_apart row) rows.now) rows.now }
-{
-    rows.iter().all(|row| has_own_email(row, rows))
-}
-
-fn has_own_email(row: &(UserId, User), rows: &[(UserId, User)]) -> bool
-    ensures { result ≡ list_all (emails_apart row.now) rows.now }
-{
-    rows.iter().all(|other| emails_apart(row, other))
 }

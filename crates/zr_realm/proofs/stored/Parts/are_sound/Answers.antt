@@ -5,6 +5,6 @@ use Rattle.zr_realm.proofs.stored.Parts.are_sound.Goals as goal
 
 pub returns : goal.returns
 returns c = (
-  λ yes. sound (tables_in c.args.self.now) c.args.sent c.tables_rise.ensures (sym c.pass_tests-passes.ensures ∙ yes),
-  λ it. c.pass_tests-passes.ensures ∙ tests_pass (tables_in c.args.self.now) c.args.sent c.tables_rise.ensures it,
+  λ yes. sound (tables_in c.args.self.now) c.args.sent c.tables_rise.ensures (sym c.in_ok-passes.ensures ∙ yes),
+  λ it. c.in_ok-passes.ensures ∙ tests_pass (tables_in c.args.self.now) c.args.sent c.tables_rise.ensures it,
 )
