@@ -1,5 +1,6 @@
 -- What changed leads from one view to the other in the section of messages.
 use Rattle.std.proofs.Common.{◌≡◌, ℕ, Bool, true, false, not, cond, ◌&&◌, bytes_eq, List, [], ◌∷◌, ◌++◌, map, flat_map, filter, fold, Option, None, Some, option_map, option_and_then, sym, ap, refl, ◌∙◌}
+use Rattle.std.proofs.Math.Bool.{beq}
 use Rattle.std.specs.Option.{option_map_or}
 use Rattle.std.specs.BTreeMap.{is_at}
 use Rattle.std.proofs.lemmas.List.Sums.{fold-append}
@@ -22,7 +23,7 @@ use Rattle.ev_types.specs.Sections.{Sections, ReactionKey}
 use Rattle.ev_types.specs.Writes.{put, patch, drop_row, cell_after, cell_after_write}
 use Rattle.ev_types.specs.EventWrites.{message_rules, message_writes, message_with, to_place, to_content, to_flag}
 use Rattle.ev_types.specs.Applying.{rows_applied}
-use Rattle.ev_laws.specs.Changes.{same_bool, full_message, arrivals, KeptMessage, StreamPlace, moved_to, move_events, edits, flag_in, turned, flag_change, flag_event, flag_events, reaction_events, message_events, changes_between}
+use Rattle.ev_laws.specs.Changes.{full_message, arrivals, KeptMessage, StreamPlace, moved_to, move_events, edits, flag_in, turned, flag_change, flag_event, flag_events, reaction_events, message_events, changes_between}
 use Rattle.ev_laws.specs.Comparable.{Comparable, SameMessage}
 use Rattle.ev_laws.proofs.Quiet.{quiet_unless}
 use Rattle.ev_laws.proofs.Groups.{quiet_people, quiet_reactions, messages_alone}
@@ -90,7 +91,7 @@ pub flag_told : {C : Type 0} (standing : Bool → C) (f : Flag) (q : MessageId) 
     (where_turned f true q (λ both c. standing true) (Some (old, new)) (standing (flag_in f old.flags))) ≡ standing (flag_in f new.flags)
 flag_told standing f q old new = go (flag_in f old.flags) (flag_in f new.flags)
   where
-    go : (a b : Bool) → cond (same_bool b false && not (same_bool a false)) (standing false) (cond (same_bool b true && not (same_bool a true)) (standing true) (standing a)) ≡ standing b
+    go : (a b : Bool) → cond (beq b false && not (beq a false)) (standing false) (cond (beq b true && not (beq a true)) (standing true) (standing a)) ≡ standing b
     go true true = refl
     go true false = refl
     go false true = refl
@@ -145,8 +146,8 @@ module _ (q : MessageId) where
     flag_set f row stands = go (flag_in f old.flags) (flag_in f new.flags) stands
       where
         go : (a b : Bool) → message_with (to_flag f a) row ≡ row
-            → cond (same_bool b false && not (same_bool a false)) (option_map (message_with (to_flag f false)) (cond (same_bool b true && not (same_bool a true)) (Some (message_with (to_flag f true) row)) (Some row)))
-            (cond (same_bool b true && not (same_bool a true)) (Some (message_with (to_flag f true) row)) (Some row))
+            → cond (beq b false && not (beq a false)) (option_map (message_with (to_flag f false)) (cond (beq b true && not (beq a true)) (Some (message_with (to_flag f true) row)) (Some row)))
+            (cond (beq b true && not (beq a true)) (Some (message_with (to_flag f true) row)) (Some row))
             ≡ Some (message_with (to_flag f b) row)
         go true true is = ap Some (sym is)
         go true false is = refl

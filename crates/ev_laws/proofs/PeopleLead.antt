@@ -1,5 +1,6 @@
 -- What changed leads from one view to the other in the sections of the realm, of users, of streams and of subscriptions.
 use Rattle.std.proofs.Common.{◌≡◌, ℕ, Bool, true, false, ◌==◌, List, [], ◌∷◌, ◌++◌, map, fold, bytes_eq, Option, None, Some, sym, ap, refl, ◌∙◌}
+use Rattle.std.proofs.Math.Bool.{beq}
 use Rattle.std.specs.BTreeMap.{is_at}
 use Rattle.std.proofs.lemmas.List.Sums.{fold-append}
 use Rattle.std.proofs.lemmas.Option.{same_Some}
@@ -24,7 +25,7 @@ use Rattle.ev_types.specs.Sections.{Sections}
 use Rattle.ev_types.specs.Writes.{put, drop_row, cell_after}
 use Rattle.ev_types.specs.EventWrites.{realm_after, user_rules, user_writes, stream_rules, stream_writes, subscription_rules, subscription_writes}
 use Rattle.ev_types.specs.Applying.{realm_applied, rows_applied}
-use Rattle.ev_laws.specs.Changes.{unless, same_bool, realm_changes, user_changes, stream_changes, subscription_changes, changes_between}
+use Rattle.ev_laws.specs.Changes.{unless, realm_changes, user_changes, stream_changes, subscription_changes, changes_between}
 use Rattle.ev_laws.specs.Comparable.{Comparable}
 use Rattle.ev_laws.proofs.Tests.{texts_same, bools_same, roles_same}
 use Rattle.ev_laws.proofs.Groups.{quiet_user_changes, quiet_stream_changes, quiet_subscription_changes, quiet_realm, quiet_users, quiet_streams, quiet_subscriptions, quiet_peers, quiet_messages, realm_alone, users_alone, streams_alone, subscriptions_alone}
@@ -71,7 +72,7 @@ module _ (q : UserId) where
   user_told old new email =
       let name = unless (bytes_eq old.full_name new.full_name) (UserChange q (user_field.FullName new.full_name)) in
       let rank = unless (role_number old.role == role_number new.role) (UserChange q (user_field.Role new.role)) in
-      let active = unless (same_bool old.is_active new.is_active) (UserChange q (user_field.IsActive new.is_active)) in
+      let active = unless (beq old.is_active new.is_active) (UserChange q (user_field.IsActive new.is_active)) in
       fold-append user_step (Some old) (name ++ rank) active
       ∙ ap (λ c. fold user_step c active)
       (fold-append user_step (Some old) name rank
@@ -80,7 +81,7 @@ module _ (q : UserId) where
       (λ same. ap (λ (full_name : List ℕ). record old { full_name = full_name }) (texts_same old.full_name new.full_name same)))
       ∙ cell-unless user_rules user_order q user_writes (role_number old.role == role_number new.role) (UserChange q (user_field.Role new.role)) (user_field.Role new.role) (record old { full_name = new.full_name }) refl
       (λ same. ap (λ (r : Role). record old { full_name = new.full_name; role = r }) (roles_same old.role new.role same)))
-      ∙ cell-unless user_rules user_order q user_writes (same_bool old.is_active new.is_active) (UserChange q (user_field.IsActive new.is_active)) (user_field.IsActive new.is_active)
+      ∙ cell-unless user_rules user_order q user_writes (beq old.is_active new.is_active) (UserChange q (user_field.IsActive new.is_active)) (user_field.IsActive new.is_active)
       (record old { full_name = new.full_name; role = new.role }) refl
       (λ same. ap (λ (b : Bool). record old { full_name = new.full_name; role = new.role; is_active = b }) (bools_same old.is_active new.is_active same))
       ∙ ap (λ (e : List ℕ). Some (record new { email = e })) (sym email)
@@ -125,8 +126,8 @@ module _ (q : StreamId) where
   stream_told old new =
       let name = unless (bytes_eq old.name new.name) (StreamChange q (stream_field.Name new.name)) in
       let about = unless (bytes_eq old.description new.description) (StreamChange q (stream_field.Description new.description)) in
-      let invite = unless (same_bool old.invite_only new.invite_only) (StreamChange q (stream_field.InviteOnly new.invite_only)) in
-      let history = unless (same_bool old.history_public_to_subscribers new.history_public_to_subscribers) (StreamChange q (stream_field.HistoryPublicToSubscribers new.history_public_to_subscribers)) in
+      let invite = unless (beq old.invite_only new.invite_only) (StreamChange q (stream_field.InviteOnly new.invite_only)) in
+      let history = unless (beq old.history_public_to_subscribers new.history_public_to_subscribers) (StreamChange q (stream_field.HistoryPublicToSubscribers new.history_public_to_subscribers)) in
       fold-append stream_step (Some old) (name ++ about ++ invite) history
       ∙ ap (λ c. fold stream_step c history)
       (fold-append stream_step (Some old) (name ++ about) invite
@@ -137,10 +138,10 @@ module _ (q : StreamId) where
       (λ same. ap (λ (t : List ℕ). record old { name = t }) (texts_same old.name new.name same)))
       ∙ cell-unless stream_rules stream_order q stream_writes (bytes_eq old.description new.description) (StreamChange q (stream_field.Description new.description)) (stream_field.Description new.description) (record old { name = new.name }) refl
       (λ same. ap (λ (t : List ℕ). record old { name = new.name; description = t }) (texts_same old.description new.description same)))
-      ∙ cell-unless stream_rules stream_order q stream_writes (same_bool old.invite_only new.invite_only) (StreamChange q (stream_field.InviteOnly new.invite_only)) (stream_field.InviteOnly new.invite_only)
+      ∙ cell-unless stream_rules stream_order q stream_writes (beq old.invite_only new.invite_only) (StreamChange q (stream_field.InviteOnly new.invite_only)) (stream_field.InviteOnly new.invite_only)
       (record old { name = new.name; description = new.description }) refl
       (λ same. ap (λ (b : Bool). record old { name = new.name; description = new.description; invite_only = b }) (bools_same old.invite_only new.invite_only same)))
-      ∙ cell-unless stream_rules stream_order q stream_writes (same_bool old.history_public_to_subscribers new.history_public_to_subscribers) (StreamChange q (stream_field.HistoryPublicToSubscribers new.history_public_to_subscribers))
+      ∙ cell-unless stream_rules stream_order q stream_writes (beq old.history_public_to_subscribers new.history_public_to_subscribers) (StreamChange q (stream_field.HistoryPublicToSubscribers new.history_public_to_subscribers))
       (stream_field.HistoryPublicToSubscribers new.history_public_to_subscribers) (record new { history_public_to_subscribers = old.history_public_to_subscribers }) refl
       (λ same. ap (λ (b : Bool). record new { history_public_to_subscribers = b }) (bools_same old.history_public_to_subscribers new.history_public_to_subscribers same))
 
@@ -171,17 +172,17 @@ module _ (q : StreamId) where
   subscription_told : (old new : ShownSubscription) → fold subscription_step (Some old) (subscription_changes (q, (old, new))) ≡ Some new
   subscription_told old new =
       let color = unless (bytes_eq old.color new.color) (SubChange q (subscription_field.Color new.color)) in
-      let muted = unless (same_bool old.is_muted new.is_muted) (SubChange q (subscription_field.IsMuted new.is_muted)) in
-      let pinned = unless (same_bool old.pin_to_top new.pin_to_top) (SubChange q (subscription_field.PinToTop new.pin_to_top)) in
+      let muted = unless (beq old.is_muted new.is_muted) (SubChange q (subscription_field.IsMuted new.is_muted)) in
+      let pinned = unless (beq old.pin_to_top new.pin_to_top) (SubChange q (subscription_field.PinToTop new.pin_to_top)) in
       fold-append subscription_step (Some old) (color ++ muted) pinned
       ∙ ap (λ c. fold subscription_step c pinned)
       (fold-append subscription_step (Some old) color muted
       ∙ ap (λ c. fold subscription_step c muted)
       (cell-unless subscription_rules stream_order q subscription_writes (bytes_eq old.color new.color) (SubChange q (subscription_field.Color new.color)) (subscription_field.Color new.color) old refl
       (λ same. ap (λ (t : List ℕ). record old { color = t }) (texts_same old.color new.color same)))
-      ∙ cell-unless subscription_rules stream_order q subscription_writes (same_bool old.is_muted new.is_muted) (SubChange q (subscription_field.IsMuted new.is_muted)) (subscription_field.IsMuted new.is_muted) (record old { color = new.color }) refl
+      ∙ cell-unless subscription_rules stream_order q subscription_writes (beq old.is_muted new.is_muted) (SubChange q (subscription_field.IsMuted new.is_muted)) (subscription_field.IsMuted new.is_muted) (record old { color = new.color }) refl
       (λ same. ap (λ (b : Bool). record old { color = new.color; is_muted = b }) (bools_same old.is_muted new.is_muted same)))
-      ∙ cell-unless subscription_rules stream_order q subscription_writes (same_bool old.pin_to_top new.pin_to_top) (SubChange q (subscription_field.PinToTop new.pin_to_top)) (subscription_field.PinToTop new.pin_to_top)
+      ∙ cell-unless subscription_rules stream_order q subscription_writes (beq old.pin_to_top new.pin_to_top) (SubChange q (subscription_field.PinToTop new.pin_to_top)) (subscription_field.PinToTop new.pin_to_top)
       (record new { pin_to_top = old.pin_to_top }) refl
       (λ same. ap (λ (b : Bool). record new { pin_to_top = b }) (bools_same old.pin_to_top new.pin_to_top same))
 

@@ -1,9 +1,9 @@
 -- What tests of equality tell.
 use Rattle.std.proofs.Common.{◌≡◌, ℕ, Bool, true, false, ◌==◌, ◌&&◌, List, bytes_eq, Some, sym, ap, refl, ◌∙◌}
-use mathlib.Core.Bool.{beq}
+use Rattle.std.proofs.Math.Bool.{beq}
 use denote.Enum.Bare.{sameb, same_true, true_same}
 use Rattle.ev_base.specs.contracts.kinds.Role.{the_type}
-use Rattle.std.specs.Cmp.{tied_then}
+use Rattle.std.specs.Cmp.{booleans_Decides, tied_then}
 use Rattle.std.specs.Cmp.Lexicographic.{bytes_decides}
 use Rattle.std.specs.Ordering.{nat_cmp, is_eq, ordering_then}
 use Rattle.std.specs.declared.cmp.Ordering.{Ordering}
@@ -16,16 +16,12 @@ use Rattle.ev_rows.proofs.RowLemmas.{at_same, at_itself}
 use Rattle.ev_base.specs.Roles.{role_number, role_of}
 use Rattle.ev_base.specs.declared.kinds.Role.{Role}
 use Rattle.ev_base.specs.declared.kinds.Role.TheVariants as role
-use Rattle.ev_laws.specs.Changes.{same_bool}
 
 pub texts_same : (a b : List ℕ) → bytes_eq a b ≡ true → b ≡ a
 texts_same a b same = sym ((bytes_decides a b).0 same)
 
-pub bools_same : (a b : Bool) → same_bool a b ≡ true → b ≡ a
-bools_same true true same = refl
-bools_same true false same = cc
-bools_same false true same = cc
-bools_same false false same = refl
+pub bools_same : (a b : Bool) → beq a b ≡ true → b ≡ a
+bools_same a b same = sym ((booleans_Decides a b).0 same)
 
 read_back : (r : Role) → role_of (role_number r) ≡ Some r
 read_back role.Owner = refl
@@ -54,13 +50,7 @@ numbers_at a b = go (a == b) (is_eq (nat_cmp a b)) refl refl
 pub then_at : (a b : Ordering) (x y : Bool) → is_eq a ≡ x → is_eq b ≡ y → is_eq (ordering_then a b) ≡ (x && y)
 then_at a b x y first second = sym (tied_then a b) ∙ ap (λ (z : Bool). z && is_eq b) first ∙ ap (λ (z : Bool). x && z) second
 
--- the tests of equality of the code, as the definitions have them
-pub bools_alike : (a b : Bool) → beq a b ≡ same_bool a b
-bools_alike true true = refl
-bools_alike true false = refl
-bools_alike false true = refl
-bools_alike false false = refl
-
+-- the code's test of equality, as the definition has it
 pub roles_alike : (a b : Role) → sameb the_type a b ≡ (role_number a == role_number b)
 roles_alike a b = go (sameb the_type a b) (role_number a == role_number b) refl refl
   where

@@ -1,5 +1,6 @@
 -- The events that tell what differs between two views, in their order.
 use Rattle.std.specs.Prelude.{ℕ, Bool, true, false, not, ◌&&◌, ◌==◌, if◌then◌else◌, bytes_eq, List, [], ◌∷◌, ◌++◌, map, flat_map, filter, fold, Option, None, Some, is_some, ⊤}
+use Rattle.std.proofs.Math.Bool.{beq}
 use Rattle.std.specs.List.{filter_map}
 use Rattle.std.specs.Option.{option_map_or, unwrap_or}
 use Rattle.std.specs.BTreeMap.{insert_entry, is_at}
@@ -32,10 +33,6 @@ use Rattle.ev_types.specs.Sections.{Sections, ReactionKey}
 abbrev pub unless : Bool → Event → List Event
 unless same event = if same then [] else event ∷ []
 
--- both truth values are the same
-abbrev pub same_bool : Bool → Bool → Bool
-same_bool a b = if a then b else not b
-
 -- 1. the realm: name, then description
 abbrev pub realm_changes : ShownRealm → ShownRealm → List Event
 realm_changes before after =
@@ -47,7 +44,7 @@ abbrev pub user_changes : UserId × (ShownUser × ShownUser) → List Event
 user_changes row =
     unless (bytes_eq row.1.0.full_name row.1.1.full_name) (UserChange row.0 (user_field.FullName row.1.1.full_name))
     ++ unless (role_number row.1.0.role == role_number row.1.1.role) (UserChange row.0 (user_field.Role row.1.1.role))
-    ++ unless (same_bool row.1.0.is_active row.1.1.is_active) (UserChange row.0 (user_field.IsActive row.1.1.is_active))
+    ++ unless (beq row.1.0.is_active row.1.1.is_active) (UserChange row.0 (user_field.IsActive row.1.1.is_active))
 
 abbrev pub user_events : List (UserId × ShownUser) → List (UserId × ShownUser) → List Event
 user_events before after = keyed_events user_cmp (map (λ row. UserAdd row.0 row.1)) user_changes (λ lost. []) before after
@@ -57,8 +54,8 @@ abbrev pub stream_changes : StreamId × (ShownStream × ShownStream) → List Ev
 stream_changes row =
     unless (bytes_eq row.1.0.name row.1.1.name) (StreamChange row.0 (stream_field.Name row.1.1.name))
     ++ unless (bytes_eq row.1.0.description row.1.1.description) (StreamChange row.0 (stream_field.Description row.1.1.description))
-    ++ unless (same_bool row.1.0.invite_only row.1.1.invite_only) (StreamChange row.0 (stream_field.InviteOnly row.1.1.invite_only))
-    ++ unless (same_bool row.1.0.history_public_to_subscribers row.1.1.history_public_to_subscribers)
+    ++ unless (beq row.1.0.invite_only row.1.1.invite_only) (StreamChange row.0 (stream_field.InviteOnly row.1.1.invite_only))
+    ++ unless (beq row.1.0.history_public_to_subscribers row.1.1.history_public_to_subscribers)
     (StreamChange row.0 (stream_field.HistoryPublicToSubscribers row.1.1.history_public_to_subscribers))
 
 abbrev pub stream_events : List (StreamId × ShownStream) → List (StreamId × ShownStream) → List Event
@@ -69,8 +66,8 @@ stream_events before after =
 abbrev pub subscription_changes : StreamId × (ShownSubscription × ShownSubscription) → List Event
 subscription_changes row =
     unless (bytes_eq row.1.0.color row.1.1.color) (SubChange row.0 (subscription_field.Color row.1.1.color))
-    ++ unless (same_bool row.1.0.is_muted row.1.1.is_muted) (SubChange row.0 (subscription_field.IsMuted row.1.1.is_muted))
-    ++ unless (same_bool row.1.0.pin_to_top row.1.1.pin_to_top) (SubChange row.0 (subscription_field.PinToTop row.1.1.pin_to_top))
+    ++ unless (beq row.1.0.is_muted row.1.1.is_muted) (SubChange row.0 (subscription_field.IsMuted row.1.1.is_muted))
+    ++ unless (beq row.1.0.pin_to_top row.1.1.pin_to_top) (SubChange row.0 (subscription_field.PinToTop row.1.1.pin_to_top))
 
 abbrev pub subscription_events : List (StreamId × ShownSubscription) → List (StreamId × ShownSubscription) → List Event
 subscription_events before after =
@@ -153,7 +150,7 @@ flag_in flag.Starred flags = flags.starred
 flag_in flag.Collapsed flags = flags.collapsed
 
 abbrev pub turned : Flag → Bool → KeptMessage → Bool
-turned flag add row = same_bool (flag_in flag row.1.1.flags) add && not (same_bool (flag_in flag row.1.0.flags) add)
+turned flag add row = beq (flag_in flag row.1.1.flags) add && not (beq (flag_in flag row.1.0.flags) add)
 
 -- the places of the messages that are unread again
 abbrev pub details_of : Flag → Bool → List KeptMessage → List (MessageId × Place)

@@ -1,6 +1,7 @@
 -- What commands name: streams, places, texts, and the messages and users that they concern.
-use Rattle.std.specs.Prelude.{ℕ, Bool, false, not, ◌&&◌, ◌||◌, ◌==◌, nat_le, bytes_eq, if◌then◌else◌, List, [], ◌∷◌, filter, fold, length, Option, None, Some, ⊤}
+use Rattle.std.specs.Prelude.{ℕ, Bool, false, not, ◌&&◌, ◌||◌, ◌==◌, nat_le, bytes_eq, List, [], ◌∷◌, filter, fold, length, Option, None, Some, ⊤}
 use Rattle.std.specs.declared.cmp.Ordering.{Ordering}
+use Rattle.std.proofs.Math.Bool.{beq}
 use Rattle.std.specs.List.{sum_by}
 use Rattle.std.specs.Option.{option_map_or, unwrap_or}
 use Rattle.std.specs.BTreeMap.{insert_entry}
@@ -38,10 +39,6 @@ use Rattle.zr_realm.specs.Visibility.{is_subscribed, sees_stream}
 abbrev pub first_of : {X : Type 0} → List X → Option X
 first_of [] = None
 first_of (first ∷ others) = Some first
-
--- both truth values are the same
-abbrev pub same_bool : Bool → Bool → Bool
-same_bool a b = if a then b else not b
 
 -- the first stream of this name that the user sees
 abbrev pub stream_named : Tables → UserId → List ℕ → Option StreamId
@@ -111,7 +108,7 @@ flag_in flag.Collapsed receipt = receipt.collapsed
 -- the flag of the user's receipt for a message isn't so already
 abbrev pub differs : Tables → UserId → Flag → Bool → MessageId → Bool
 differs tables user flag add message =
-    option_map_or (λ receipt. not (same_bool (flag_in flag receipt) add)) (receipt_of tables user message) false
+    option_map_or (λ receipt. not (beq (flag_in flag receipt) add)) (receipt_of tables user message) false
 
 -- the messages of these for which it isn't, rising
 abbrev pub differing : Tables → UserId → Flag → Bool → List MessageId → List MessageId

@@ -1,10 +1,9 @@
 use Rattle.std.proofs.Common.{◌∙◌, ◌++◌, ap, rules}
-use Rattle.std.proofs.lemmas.Result.{IfOk-equal}
 use Rattle.ev_types.specs.declared.event.UserField.TheVariants as user_field
 use Rattle.ev_types.specs.declared.event.Event.TheVariants.{UserChange}
 use Rattle.ev_laws.specs.Changes.{unless}
 use Rattle.ev_laws.proofs.Loops.{joined, joined_last}
-use Rattle.ev_laws.proofs.Tests.{bools_alike, roles_alike}
+use Rattle.ev_laws.proofs.Tests.{roles_alike}
 use Rattle.ev_laws.proofs.changing.people.ShownUserChangingUserId.push_changes.Goals as goal
 
 pub returns : goal.returns
@@ -16,5 +15,4 @@ returns c =
     let role = c.in_ok-push_change-2.ensures (λ value. UserChange user (user_field.Role value)) (λ value made called. search rules) in
     let told_role = role ∙ ap (λ same. c.push_change.new.events.items ++ unless same (UserChange user (user_field.Role new.role))) (roles_alike old.role new.role) in
     let active = c.push_change-3.ensures (λ value. UserChange user (user_field.IsActive value)) (λ value made called. search rules) in
-    let told_active = IfOk-equal _ _ _ _ active (ap (λ same. c.push_change-2.new.events.items ++ unless same (UserChange user (user_field.IsActive new.is_active))) (bools_alike old.is_active new.is_active)) in
-    joined_last _ _ _ _ _ (joined _ _ _ _ _ name told_role) _ told_active
+    joined_last _ _ _ _ _ (joined _ _ _ _ _ name told_role) _ active

@@ -1,10 +1,7 @@
-use Rattle.std.proofs.Common.{◌∙◌, ◌++◌, ap, rules}
-use Rattle.std.proofs.lemmas.Result.{IfOk-equal}
+use Rattle.std.proofs.Common.{rules}
 use Rattle.ev_types.specs.declared.event.StreamField.TheVariants as stream_field
 use Rattle.ev_types.specs.declared.event.Event.TheVariants.{StreamChange}
-use Rattle.ev_laws.specs.Changes.{unless}
 use Rattle.ev_laws.proofs.Loops.{joined, joined_last}
-use Rattle.ev_laws.proofs.Tests.{bools_alike}
 use Rattle.ev_laws.proofs.changing.streams.ShownStreamChangingStreamId.push_changes.Goals as goal
 
 pub returns : goal.returns
@@ -15,7 +12,5 @@ returns c =
     let name = c.in_ok-push_change.ensures (λ value. StreamChange stream (stream_field.Name value)) (λ value made called. search rules) in
     let text = c.in_ok-push_change-2.ensures (λ value. StreamChange stream (stream_field.Description value)) (λ value made called. search rules) in
     let invite = c.in_ok-push_change-3.ensures (λ value. StreamChange stream (stream_field.InviteOnly value)) (λ value made called. search rules) in
-    let told_invite = invite ∙ ap (λ same. c.push_change-2.new.events.items ++ unless same (StreamChange stream (stream_field.InviteOnly new.invite_only))) (bools_alike old.invite_only new.invite_only) in
     let history = c.push_change-4.ensures (λ value. StreamChange stream (stream_field.HistoryPublicToSubscribers value)) (λ value made called. search rules) in
-    let told_history = IfOk-equal _ _ _ _ history (ap (λ same. c.push_change-3.new.events.items ++ unless same (StreamChange stream (stream_field.HistoryPublicToSubscribers new.history_public_to_subscribers))) (bools_alike old.history_public_to_subscribers new.history_public_to_subscribers)) in
-    joined_last _ _ _ _ _ (joined _ _ _ _ _ (joined _ _ _ _ _ name text) told_invite) _ told_history
+    joined_last _ _ _ _ _ (joined _ _ _ _ _ (joined _ _ _ _ _ name text) invite) _ history

@@ -1,10 +1,7 @@
-use Rattle.std.proofs.Common.{◌∙◌, ◌++◌, ap, rules}
-use Rattle.std.proofs.lemmas.Result.{IfOk-equal}
+use Rattle.std.proofs.Common.{rules}
 use Rattle.ev_types.specs.declared.event.SubscriptionField.TheVariants as subscription_field
 use Rattle.ev_types.specs.declared.event.Event.TheVariants.{SubChange}
-use Rattle.ev_laws.specs.Changes.{unless}
 use Rattle.ev_laws.proofs.Loops.{joined, joined_last}
-use Rattle.ev_laws.proofs.Tests.{bools_alike}
 use Rattle.ev_laws.proofs.changing.streams.ShownSubscriptionChangingStreamId.push_changes.Goals as goal
 
 pub returns : goal.returns
@@ -14,7 +11,5 @@ returns c =
     let new = c.args.after.now in
     let color = c.in_ok-push_change.ensures (λ value. SubChange stream (subscription_field.Color value)) (λ value made called. search rules) in
     let muted = c.in_ok-push_change-2.ensures (λ value. SubChange stream (subscription_field.IsMuted value)) (λ value made called. search rules) in
-    let told_muted = muted ∙ ap (λ same. c.push_change.new.events.items ++ unless same (SubChange stream (subscription_field.IsMuted new.is_muted))) (bools_alike old.is_muted new.is_muted) in
     let pinned = c.push_change-3.ensures (λ value. SubChange stream (subscription_field.PinToTop value)) (λ value made called. search rules) in
-    let told_pinned = IfOk-equal _ _ _ _ pinned (ap (λ same. c.push_change-2.new.events.items ++ unless same (SubChange stream (subscription_field.PinToTop new.pin_to_top))) (bools_alike old.pin_to_top new.pin_to_top)) in
-    joined_last _ _ _ _ _ (joined _ _ _ _ _ color told_muted) _ told_pinned
+    joined_last _ _ _ _ _ (joined _ _ _ _ _ color muted) _ pinned
