@@ -19,7 +19,7 @@ steps_of turns = map (λ turn. turn.step) turns
 
 -- a line names a shard that is there
 in_range : (line : List ℕ) (step : Step) (count : ℕ) → 1 ≤ count → Spells line step → IsInRange count step
-in_range line (Push index) count some spells = let first = spells.1 in omega arith
+in_range line (Push index) count some spells = omega (arith, spells.2.1)
 in_range line step count some spells = tt
 
 -- the standing after some steps, and what is printed for them

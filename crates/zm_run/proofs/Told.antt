@@ -76,6 +76,6 @@ stands_after sound old new line lines text step outcome spells plays stands =
 pub names_the_shard : (line : List ℕ) (step : Step) → Spells line step → NamesAShard shards step
 names_the_shard line (Command actor command) spells = tt
 names_the_shard line NoticeAll spells = tt
-names_the_shard line (Push shard) spells = omega (arith, spells.1)
+names_the_shard line (Push shard) spells = omega (arith, spells.2.1)
 names_the_shard line (Register user) spells = tt
 names_the_shard line (Poll user queue after) spells = tt

@@ -8,8 +8,8 @@ use Rattle.zw_lines.specs.declared.people.Command.{Command as Change}
 use Rattle.zw_lines.specs.declared.people.Command.TheVariants.{UserAdd, UserUpdate}
 use Rattle.zs_script.specs.declared.step.Step.{Step}
 use Rattle.zs_script.specs.declared.step.Step.TheVariants.{Command, NoticeAll, Push, Register, Poll}
-use Rattle.zs_script.specs.Grammar.{Spells, IsNumber, IsInteger, is_digit, value_of_digits}
-use Rattle.zs_script.specs.Words.{words_of, WordsSpell}
+use Rattle.zs_script.specs.Grammar.{Spells, WordsSpell, IsNumber, IsInteger, is_digit, value_of_digits}
+use Rattle.zs_script.specs.Words.{words_of}
 use Rattle.zs_script.proofs.LineWords.{words_spell}
 
 -- the bytes of the first word and the number of the words, which tell the kinds of line apart

@@ -1,5 +1,5 @@
--- What is answered for words where memory ran out, for words in none of the forms that spell a step, and for a line.
-use Rattle.std.proofs.Common.{◌≡◌, ℕ, zero, suc, ◌<◌, List, [], ◌∷◌, codes, length, get_or, Bor, Result, Ok, Err, IfOk, refl, sym, ap, ◌∙◌, subst, arith}
+-- What is answered for words where memory ran out, and for words in none of the forms that spell a step.
+use Rattle.std.proofs.Common.{◌≡◌, ℕ, zero, suc, ◌<◌, List, [], ◌∷◌, codes, length, get_or, Bor, Result, Err, IfOk, refl, sym, ap, ◌∙◌, subst, arith}
 use Rattle.std.proofs.lemmas.List.{length-map}
 use Rattle.ev_base.specs.declared.ids.UserId.{UserId}
 use Rattle.zw_lines.specs.declared.people.Command.{Command as Change}
@@ -8,9 +8,8 @@ use Rattle.zs_script.specs.declared.reading.LineFault.{LineFault}
 use Rattle.zs_script.specs.declared.reading.LineFault.TheVariants.{NotAStep, NoMemory}
 use Rattle.zs_script.specs.declared.step.Step.{Step}
 use Rattle.zs_script.specs.declared.step.Step.TheVariants.{Command, NoticeAll, Push, Register, Poll}
-use Rattle.zs_script.specs.Grammar.{Spells}
-use Rattle.zs_script.specs.Words.{ReadsWords, WordsSpell, texts, words_of}
-use Rattle.zs_script.proofs.LineWords.{line_spells, words_spell}
+use Rattle.zs_script.specs.Grammar.{WordsSpell}
+use Rattle.zs_script.specs.Words.{ReadsWords, texts}
 
 pub out_of_memory : (words : List (List ℕ)) (answer : Result Step LineFault) (actor : UserId) (command : Change) → answer ≡ Err NoMemory → WordsSpell words (Command actor command) → ReadsWords words answer
 out_of_memory words answer actor command is spell =
@@ -80,23 +79,3 @@ too_many words many = record {
   not_a_step = λ _ step is. spells_few words step many is;
   no_memory = λ other. cc;
 }
-
--- what is answered for a line, where it was answered for its words
-pub record ReadsLine (line : List ℕ) (answer : Result Step LineFault) : Type 0 where
-  pub step : (step : Step) → answer ≡ Ok step → Spells line step
-  pub not_a_step : answer ≡ Err NotAStep → (step : Step) → Spells line step → ⊥
-  pub no_memory : answer ≡ Err NoMemory → (actor : UserId) × (command : Change) × Spells line (Command actor command)
-
-pub reads_line : (text line : List ℕ) (answer : Result Step LineFault) → text ≡ line → ReadsWords (words_of text) answer → ReadsLine line answer
-reads_line text line answer same reads_text =
-    let Q : List ℕ → Type 0 = λ bytes. ReadsWords (words_of bytes) answer in
-    let reads : ReadsWords (words_of line) answer = subst Q same reads_text in
-    record {
-      step = λ step is.
-          let P : Result Step LineFault → Type 0 = λ a. IfOk a (WordsSpell (words_of line)) in
-          line_spells line step (subst P is reads.step);
-      not_a_step = λ is step spells. reads.not_a_step is step (words_spell line step spells);
-      no_memory = λ is.
-          let spelled = reads.no_memory is in
-          (spelled.0, spelled.1, line_spells line (Command spelled.0 spelled.1) spelled.2);
-    }

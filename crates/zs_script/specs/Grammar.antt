@@ -54,26 +54,31 @@ IsInteger (first ∷ rest) integer =
 abbrev pub first_user : UserId
 first_user = record { 0 = 1 }
 
--- the line spells the step
-abbrev pub Spells : List ℕ → Step → Type 0
-Spells line (Command actor (UserAdd email full_name key)) =
-    (line ≡ spaced (codes "user_add" ∷ codes "0" ∷ email ∷ full_name ∷ codes "100" ∷ key ∷ []))
+-- the words spell the step
+abbrev pub WordsSpell : List (List ℕ) → Step → Type 0
+WordsSpell words (Command actor (UserAdd email full_name key)) =
+    (words ≡ codes "user_add" ∷ codes "0" ∷ email ∷ full_name ∷ codes "100" ∷ key ∷ [])
     × (actor ≡ record { 0 = 0 })
     × IsWordOf is_address_byte email × IsWordOf is_address_byte full_name × IsWordOf is_alphanumeric key
-Spells line (Command actor (UserUpdate user full_name)) =
+WordsSpell words (Command actor (UserUpdate user full_name)) =
     (first second : List ℕ)
-    × (line ≡ spaced (codes "user_update" ∷ first ∷ second ∷ full_name ∷ []))
+    × (words ≡ codes "user_update" ∷ first ∷ second ∷ full_name ∷ [])
     × IsNumber first actor.0 × IsNumber second user.0 × (user ≡ actor) × (actor.0 < 2 ^ 32)
     × IsWordOf is_address_byte full_name
-Spells line NoticeAll = line ≡ codes "notice"
-Spells line (Push shard) = (line ≡ codes "push 0") × (shard ≡ 0)
-Spells line (Register user) = (line ≡ codes "register 1 * realm_user") × (user ≡ first_user)
-Spells line (Poll user queue after) =
+WordsSpell words NoticeAll = words ≡ codes "notice" ∷ []
+WordsSpell words (Push shard) = (words ≡ codes "push" ∷ codes "0" ∷ []) × (shard ≡ 0)
+WordsSpell words (Register user) =
+    (words ≡ codes "register" ∷ codes "1" ∷ codes "*" ∷ codes "realm_user" ∷ []) × (user ≡ first_user)
+WordsSpell words (Poll user queue after) =
     (number last : List ℕ)
-    × (line ≡ spaced (codes "poll" ∷ codes "1" ∷ (codes "1." ++ number) ∷ last ∷ []))
+    × (words ≡ codes "poll" ∷ codes "1" ∷ (codes "1." ++ number) ∷ last ∷ [])
     × (user ≡ first_user) × (queue.user ≡ first_user) × (queue.salt ≡ 0)
     × IsNumber number queue.number × (queue.number < 2 ^ 32)
     × IsInteger last after × FitsSigned w64 after
+
+-- the line spells the step: it is made of words that spell it, each behind a space but the first
+abbrev pub Spells : List ℕ → Step → Type 0
+Spells line step = (words : List (List ℕ)) × (line ≡ spaced words) × WordsSpell words step
 
 -- the line isn't passed over and spells no step
 abbrev pub IsNoStep : List ℕ → Type 0
