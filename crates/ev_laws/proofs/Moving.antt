@@ -1,17 +1,13 @@
 -- Messages that moved, put among the moves by their new place.
-use Rattle.std.proofs.Common.{◌≡◌, ◌∙◌, ℕ, ◌+◌, ◌<◌, List, [], ◌∷◌, length, get_or, take, map, Less, Equal, Greater, Ordering, Some, IsNone, is_some, ap, sym, refl, true≢false}
+use Rattle.std.proofs.Common.{◌≡◌, ◌∙◌, List, [], ◌∷◌, Less, Equal, Greater, Ordering, Some, IsNone, is_some, ap, sym, refl, true≢false}
 use Rattle.std.specs.Ordering.{match_ordering}
-use Rattle.std.specs.Option.{option_map_or}
 use Rattle.std.specs.BTreeMap.{insert_entry}
 use Rattle.std.proofs.lemmas.Cmp.{tied_itself}
-use Rattle.std.proofs.lemmas.List.{map-append}
-use Rattle.std.proofs.lemmas.List.Sums.{fold-append}
 use Rattle.ev_rows.specs.KeyOrder.{KeyOrder}
 use Rattle.ev_rows.specs.Rows.{row_at}
 use Rattle.ev_rows.proofs.RowLemmas.{at_itself, row_at-insert_entry}
 use Rattle.ev_base.specs.Orders.{pair_order, stream_order, text_order}
-use Rattle.ev_laws.specs.Changes.{KeptMessage, StreamPlace, moved_to, moves_of, place_cmp, with_move}
-use Rattle.ev_laws.proofs.Loops.{take_next}
+use Rattle.ev_laws.specs.Changes.{StreamPlace, place_cmp}
 
 place_order : KeyOrder place_cmp
 place_order = pair_order stream_order text_order
@@ -37,11 +33,3 @@ put_there rows key value none =
     let at = at_itself place_order key in
     let found : row_at place_cmp (insert_entry place_cmp rows key value) key ≡ Some value = rw at at there in
     true≢false (ap is_some (sym found) ∙ none)
-
--- the moves after the next row
-pub moves_next : {X : Type 0} (view : X → KeptMessage) (xs : List X) (i : ℕ) (x : X) → i < length xs → x ≡ get_or xs i x
-    → moves_of (map view (take (i + 1) xs)) ≡ option_map_or (λ to. with_move (moves_of (map view (take i xs))) to (view x).0) (moved_to (view x)) (moves_of (map view (take i xs)))
-moves_next view xs i x within is =
-    ap (λ l. moves_of (map view l)) (take_next xs i x within is)
-    ∙ ap moves_of (map-append view (take i xs) (x ∷ []))
-    ∙ fold-append _ [] (map view (take i xs)) (view x ∷ [])

@@ -58,13 +58,6 @@ module _ {K V F P : Type 0} (rules : Rules K V F P) (writes : Event → List (Wr
   rows_applied-append before after rows =
       ap (after_writes rules rows) (flat_map-append writes before after) ∙ fold-append (after_write rules) rows (flat_map writes before) (flat_map writes after)
 
-  -- and those that the rows hold already may come again before them
-  pub rows_applied-overlap : KeyOrder rules.cmp → Settles (λ row field. rules.set field row) → (before after : List Event) (rows : List (K × V)) → RowsRise rules.cmp rows
-      → rows_applied rules writes (before ++ after) (rows_applied rules writes before rows) ≡ rows_applied rules writes after (rows_applied rules writes before rows)
-  rows_applied-overlap order fields before after rows rise =
-      rows_applied-append before after (rows_applied rules writes before rows)
-      ∙ ap (rows_applied rules writes after) (rows_applied-again rules writes order fields before rows rise)
-
 pub applied-append : (before after : List Event) (view : Sections) → applied (before ++ after) view ≡ applied after (applied before view)
 applied-append before after view = λ i. record {
   realm = fold-append realm_after view.realm before after i;

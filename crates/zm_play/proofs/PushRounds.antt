@@ -87,10 +87,6 @@ module _ (old mid : WorldState) (index first from : ℕ) (list : List Notice)
       let first_step : GoesOn before between = subst (λ history. GoesOn before history) (sym now.holds.0.is) (asks_realm (Take first) (Notices first list) rests) in
       goes_on_from first_step last.holds)
 
--- the position is raised
-pub next_rises : (old new : WorldState) (index first reached : ℕ) → IsReady old (IsNext index first) → Goes old new (IsNext index first) (TakesNext index first reached) → first ≤ reached
-next_rises old new index first reached ready goes = (goes ready.0 ready.1).1.holds.further
-
 -- a shard that stands at a position that isn't enough lacks the next notice
 pub due_next : (index need have : ℕ) (history : History) → have < need → IsDue index need have history → IsNext index (have + 1) history
 due_next index need have history below due =

@@ -21,7 +21,8 @@ pub fn commit(
     actor: UserId,
     command: Command,
 ) -> Result<Outcome, NoMemory>
-    ensures goes { Goes world.old world.new Any (OrStops result (Plays (Step.Command actor command))) }
+    ensures goes { Goes world.old world.new Any
+        (OrStops result (Plays (Step.Command actor command))) }
     ensures shards { length world.new.shards ≡ length world.old.shards }
 {
     match world.ask_realm(alloc, RealmInput::Commit { actor, command }) {
@@ -34,7 +35,8 @@ pub fn commit(
 
 /// Announces all commits, and tells how many they are.
 pub fn announce(world: &mut World, alloc: Global) -> u64
-    ensures goes { Goes world.old world.new Any (λ before after. after ≡ with_realm_step RealmInput.NoticeAll (RealmReply.Noticed result) before) }
+    ensures goes { Goes world.old world.new Any
+        (λ before after. after ≡ with_realm_step RealmInput.NoticeAll (RealmReply.Noticed result) before) }
     ensures shards { length world.new.shards ≡ length world.old.shards }
 {
     match world.ask_realm(alloc, RealmInput::NoticeAll) {

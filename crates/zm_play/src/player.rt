@@ -34,7 +34,8 @@ impl Model for Player {
 impl Player {
     /// A player over a world with one shard and no step.
     pub fn new(alloc: Global) -> Result<Player, NoMemory>
-        ensures { IfOk result (λ player. (WorldStands player (opening_history 1)) × (length player.shards ≡ 1)) }
+        ensures { IfOk result
+            (λ player. (WorldStands player (opening_history 1)) × (length player.shards ≡ 1)) }
     {
         Ok(Player {
             world: World::new(alloc, 1)?,

@@ -19,7 +19,8 @@ pub fn poll(
     queue: QueueId,
     after: i64,
 ) -> Result<Outcome, NoMemory>
-    ensures goes { Goes world.old world.new Any (OrStops result (Plays (Step.Poll user queue after))) }
+    ensures goes { Goes world.old world.new Any
+        (OrStops result (Plays (Step.Poll user queue after))) }
     ensures shards { length world.new.shards ≡ length world.old.shards }
 {
     let shard = world.serving(user);

@@ -50,7 +50,8 @@ pub fn catch_up(
 ) -> Result<u64, NoMemory>
     requires index { shard < length world.old.shards }
     requires ready { IsReady world.old (MayCatchUp shard need have) }
-    ensures goes { Goes world.old world.new (MayCatchUp shard need have) (OrStops result (λ reached before after. CatchesUp shard need have before reached after)) }
+    ensures goes { Goes world.old world.new (MayCatchUp shard need have)
+        (OrStops result (λ reached before after. CatchesUp shard need have before reached after)) }
     ensures shards { length world.new.shards ≡ length world.old.shards }
 {
     if need <= have {
@@ -70,7 +71,8 @@ fn take_and_push(
 ) -> Result<u64, NoMemory>
     requires index { shard < length world.old.shards }
     requires ready { IsReady world.old (IsDue shard need have) }
-    ensures goes { Goes world.old world.new (IsDue shard need have) (OrStops result (λ reached. TakesUpTo shard need have reached)) }
+    ensures goes { Goes world.old world.new (IsDue shard need have)
+        (OrStops result (λ reached. TakesUpTo shard need have reached)) }
     ensures shards { length world.new.shards ≡ length world.old.shards }
 {
     let mut reached = have;
@@ -84,7 +86,8 @@ fn take_and_push(
 fn push_next(world: &mut World, alloc: Global, shard: u32, first: u64) -> Result<u64, NoMemory>
     requires index { shard < length world.old.shards }
     requires ready { IsReady world.old (IsNext shard first) }
-    ensures goes { Goes world.old world.new (IsNext shard first) (OrStops result (λ reached. TakesNext shard first reached)) }
+    ensures goes { Goes world.old world.new (IsNext shard first)
+        (OrStops result (λ reached. TakesNext shard first reached)) }
     ensures shards { length world.new.shards ≡ length world.old.shards }
 {
     match world.ask_realm(alloc, RealmInput::Take { first }) {
@@ -105,7 +108,8 @@ fn push_notices(
     requires index { shard < length world.old.shards }
     requires numbered { AreNumbered first notices }
     requires ready { IsReady world.old (MayPush shard first notices) }
-    ensures goes { Goes world.old world.new (MayPush shard first notices) (OrStops result (λ reached. Asks shard (ShardInput.Push first notices) (ShardReply.Pushed reached))) }
+    ensures goes { Goes world.old world.new (MayPush shard first notices)
+        (OrStops result (λ reached. Asks shard (ShardInput.Push first notices) (ShardReply.Pushed reached))) }
     ensures shards { length world.new.shards ≡ length world.old.shards }
 {
     match world.ask_shard(alloc, shard, ShardInput::Push { first, notices }) {

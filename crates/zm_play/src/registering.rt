@@ -39,7 +39,8 @@ fn fill(
     have: u64,
 ) -> Result<Outcome, NoMemory>
     requires ready { IsReady world.old (WasOpened user queue have) }
-    ensures goes { Goes world.old world.new (WasOpened user queue have) (OrStops result (Registers user queue have)) }
+    ensures goes { Goes world.old world.new (WasOpened user queue have)
+        (OrStops result (Registers user queue have)) }
     ensures shards { length world.new.shards ≡ length world.old.shards }
 {
     let shard = world.serving(user);
@@ -67,7 +68,8 @@ fn complete(
 ) -> Result<Outcome, NoMemory>
     requires index { shard < length world.old.shards }
     requires ready { IsReady world.old (MayComplete shard queue have part) }
-    ensures goes { Goes world.old world.new (MayComplete shard queue have part) (OrStops result (Completes shard queue have part)) }
+    ensures goes { Goes world.old world.new (MayComplete shard queue have part)
+        (OrStops result (Completes shard queue have part)) }
     ensures shards { length world.new.shards ≡ length world.old.shards }
 {
     catch_up(world, alloc, shard, part.at, have)?;
@@ -84,7 +86,8 @@ fn finish(
 ) -> Result<Outcome, NoMemory>
     requires index { shard < length world.old.shards }
     requires ready { IsReady world.old (MayFinish shard queue part) }
-    ensures goes { Goes world.old world.new (MayFinish shard queue part) (OrStops result (Finishes shard queue part)) }
+    ensures goes { Goes world.old world.new (MayFinish shard queue part)
+        (OrStops result (Finishes shard queue part)) }
     ensures shards { length world.new.shards ≡ length world.old.shards }
 {
     match world.ask_shard(alloc, shard, ShardInput::Finish { queue, part }) {
@@ -107,7 +110,8 @@ fn finish(
 fn delete(world: &mut World, alloc: Global, shard: u32, user: UserId, queue: QueueId)
     requires index { shard < length world.old.shards }
     requires ready { IsReady world.old (MayDelete shard user queue) }
-    ensures goes { Goes world.old world.new (MayDelete shard user queue) (Asks shard (ShardInput.Delete user queue) ShardReply.Deleted) }
+    ensures goes { Goes world.old world.new (MayDelete shard user queue)
+        (Asks shard (ShardInput.Delete user queue) ShardReply.Deleted) }
     ensures shards { length world.new.shards ≡ length world.old.shards }
 {
     match world.ask_shard(alloc, shard, ShardInput::Delete { user, queue }) {

@@ -9,7 +9,7 @@ use Rattle.zm_text.specs.Texts.{HasText}
 use Rattle.zm_run.specs.declared.runner.Runner.{Runner}
 use Rattle.zm_run.specs.declared.runner.Stop.{Stop}
 use Rattle.zm_run.specs.declared.runner.Stop.TheVariants.{BadLine, NoMemory}
-use Rattle.zm_run.specs.Inputs.{AreLines, BeginsNoStep, BeginsTooLong, HasNoFeed, IsLine, SplitsWhole, bytes_of, longest_line}
+use Rattle.zm_run.specs.Inputs.{BeginsNoStep, BeginsTooLong, HasNoFeed, IsLine, bytes_of, longest_line}
 use Rattle.zm_run.specs.Ends.{shards}
 use Rattle.zm_run.specs.Running.{HasPlayed, IsBad, IsWhy, PlayedOn, PlayedToEnd, PlaysStep, ScriptsAreSound, Stands, StoppedIn}
 use Rattle.zm_run.proofs.Feeds.{line_taken, line_begins}
@@ -129,14 +129,6 @@ stopped_at_end stop old new lines written rest left played output counts why = r
   spelled = refl;
   why = why;
 }
-
-split_at_feed : (lines : List (List ℕ)) → AreLines lines → SplitsWhole (bytes_of lines ++ []) lines
-split_at_feed [] good = refl
-split_at_feed (line ∷ before) good = (good, inl (append-nil (bytes_of (line ∷ before))))
-
--- the last line ends in a feed
-pub ended_at_feed : (runner : Runner) (lines : List (List ℕ)) (written : List ℕ) → HasPlayed runner lines written → PlayedToEnd runner lines written []
-ended_at_feed runner lines written played = record { after = lines; played = played; split = split_at_feed lines played.good }
 
 -- the last line lacks its feed
 pub ended_without_feed : (runner : Runner) (lines : List (List ℕ)) (written rest : List ℕ) → rest ≢ []

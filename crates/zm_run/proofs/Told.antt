@@ -1,15 +1,14 @@
 -- The text of a script grows line by line.
-use Rattle.std.proofs.Common.{ℕ, List, [], ◌∷◌, ◌++◌, refl, ap, inl, inr, arith}
+use Rattle.std.proofs.Common.{ℕ, List, [], ◌∷◌, ◌++◌, refl, ap, inl, inr}
 use Rattle.zw_lines.specs.Histories.{History, IsFedHistory, opening_history}
 use Rattle.zw_world.specs.Worlds.{WorldState, WorldStands}
 use Rattle.zs_script.specs.declared.step.Step.{Step}
-use Rattle.zs_script.specs.declared.step.Step.TheVariants.{Command, NoticeAll, Push, Register, Poll}
 use Rattle.zs_script.specs.Grammar.{IsPassedOver, Spells}
 use Rattle.zm_text.specs.declared.outcome.Outcome.{Outcome}
 use Rattle.zm_text.specs.Outcomes.{text_of_outcome}
 use Rattle.zm_text.specs.Playing.{Turn, IsPlayed}
 use Rattle.zm_text.specs.Texts.{HasText}
-use Rattle.zm_play.specs.Played.{NamesAShard, Played}
+use Rattle.zm_play.specs.Played.{Played}
 use Rattle.zm_run.specs.Ends.{shards}
 use Rattle.zm_run.specs.Running.{ScriptsAreSound, Stands}
 
@@ -71,11 +70,3 @@ stands_after sound old new line lines text step outcome spells plays stands =
       fed = goes.2;
       world = goes.1;
     }
-
--- a step that a line spells names the only shard
-pub names_the_shard : (line : List ℕ) (step : Step) → Spells line step → NamesAShard shards step
-names_the_shard line (Command actor command) spells = tt
-names_the_shard line NoticeAll spells = tt
-names_the_shard line (Push shard) spells = omega (arith, spells.2.1)
-names_the_shard line (Register user) spells = tt
-names_the_shard line (Poll user queue after) spells = tt

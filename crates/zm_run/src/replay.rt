@@ -28,7 +28,8 @@ pub fn run<S: Source, K: Sink>(
     sink: &mut K,
 ) -> Status
     // What was read and what was written belong together.
-    ensures replays { Replays result (S.left source.old) (S.left source.new) (K.held sink.old) (K.held sink.new) }
+    ensures replays { Replays result
+        (S.left source.old) (S.left source.new) (K.held sink.old) (K.held sink.new) }
     ensures usage { (result ≡ Status.Usage) ↔ (map string_bytes words.now ≢ codes "replay" ∷ []) }
     ensures read_fault { result ≡ Status.ReadFault → Rose (S.faults source.old) (S.faults source.new) }
     ensures write_fault { result ≡ Status.WriteFault → Rose (K.faults sink.old) (K.faults sink.new) }
@@ -51,7 +52,8 @@ pub fn are_the_word(words: &[String], expected: &str) -> bool
 
 /// Reads a script piece by piece and writes its output.
 fn replay<S: Source, K: Sink>(alloc: Global, source: &mut S, sink: &mut K) -> Status
-    ensures replays { Replays result (S.left source.old) (S.left source.new) (K.held sink.old) (K.held sink.new) }
+    ensures replays { Replays result
+        (S.left source.old) (S.left source.new) (K.held sink.old) (K.held sink.new) }
     ensures caused { IsCaused result (Rose (S.faults source.old) (S.faults source.new))
         (Rose (K.faults sink.old) (K.faults sink.new)) }
 {

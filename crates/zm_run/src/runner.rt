@@ -80,13 +80,15 @@ impl Runner {
         sink: &mut K,
     ) -> Result<(), Status>
         requires few { self.old.lines ≤ input.old.read }
-        ensures goes { (left left' held : Option (List ℕ)) → Running left left' held (K.held sink.old) self.old input.old
+        ensures goes { (left left' held : Option (List ℕ))
+            → Running left left' held (K.held sink.old) self.old input.old
             → MatchResult result (λ _. Running left left' held (K.held sink.new) self.new input.new)
             (λ status. Replays status left left' held (K.held sink.new)) }
         ensures rest { OnOk result (HasNoFeed (pending_of input.new)) }
         ensures short { OnOk result (length (pending_of input.new) ≤ longest_line) }
         ensures read { input.new.read ≡ input.old.read }
-        ensures caused { IfErr result (λ status. IsCaused status ⊥ (Rose (K.faults sink.old) (K.faults sink.new))) }
+        ensures caused { IfErr result
+            (λ status. IsCaused status ⊥ (Rose (K.faults sink.old) (K.faults sink.new))) }
         ensures count { K.faults sink.old ≤ K.faults sink.new }
     {
         let played = self.play_lines(alloc, input.pending());
@@ -105,7 +107,8 @@ impl Runner {
     /// Plays a last line that lacks its feed, where there is one, and hands the output over.
     pub fn finish<K: Sink>(mut self, alloc: Global, input: &Input, sink: &mut K) -> Status
         requires few { self.lines ≤ input.now.read }
-        ensures ends { (left left' held : Option (List ℕ)) → Running left left' held (K.held sink.old) self input.now
+        ensures ends { (left left' held : Option (List ℕ))
+            → Running left left' held (K.held sink.old) self input.now
             → HasNoFeed (pending_of input.now) → IsSpent left' → Replays result left left' held (K.held sink.new) }
         ensures caused { IsCaused result ⊥ (Rose (K.faults sink.old) (K.faults sink.new)) }
         ensures count { K.faults sink.old ≤ K.faults sink.new }
@@ -126,7 +129,8 @@ impl Runner {
         ensures within { IfOk result (λ used. used ≤ length bytes.now) }
         ensures rest { IfOk result (λ used. HasNoFeed (drop used bytes.now)) }
         ensures short { IfOk result (λ used. length (drop used bytes.now) ≤ longest_line) }
-        ensures played { (left : Option (List ℕ)) (lines : List (List ℕ)) (written : List ℕ) → HasPlayed self.old lines written
+        ensures played { (left : Option (List ℕ)) (lines : List (List ℕ)) (written : List ℕ)
+            → HasPlayed self.old lines written
             → MatchResult result (λ used. PlayedOn self.new lines written (take used bytes.now))
             (λ stop. StoppedIn stop self.new lines written bytes.now left) }
         ensures count { self.new.lines ≤ self.old.lines + length bytes.now }
@@ -146,7 +150,8 @@ impl Runner {
     /// Plays a line, where there is one.
     fn play_rest(&mut self, alloc: Global, rest: &[u8]) -> Result<(), Stop>
         requires few { self.old.lines < 2 ^ 63 }
-        ensures played { (left : Option (List ℕ)) (lines : List (List ℕ)) (written : List ℕ) → HasNoFeed rest.now
+        ensures played { (left : Option (List ℕ)) (lines : List (List ℕ)) (written : List ℕ)
+            → HasNoFeed rest.now
             → IsSpent left → HasPlayed self.old lines written
             → MatchResult result (λ _. PlayedToEnd self.new lines written rest.now)
             (λ stop. StoppedIn stop self.new lines written rest.now left) }

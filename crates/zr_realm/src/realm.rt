@@ -69,8 +69,10 @@ impl Realm {
         marks: Marks,
         sent: u64,
     ) -> Result<Option<Realm>, NoMemory>
-        ensures state { IfOk result (λ made. IfSome made (λ realm. realm.state ≡ stored_state (tables_of people streams posts marks) sent)) }
-        ensures sound { IfOk result (λ made. IsSome made ↔ IsSound (tables_of people streams posts marks) sent) }
+        ensures state { IfOk result (λ made. IfSome made
+            (λ realm. realm.state ≡ stored_state (tables_of people streams posts marks) sent)) }
+        ensures sound { IfOk result
+            (λ made. IsSome made ↔ IsSound (tables_of people streams posts marks) sent) }
     {
         let parts = Parts {
             people: &people,

@@ -71,7 +71,8 @@ impl Realm {
 
     // A protected history is seen by those who got the message.
     fn sees_history(&self, user: UserId, message: MessageId, stream: StreamId) -> bool
-        ensures { result ≡ (not (has_protected_history self.now.state.tables user stream) || is_some (receipt_of self.now.state.tables user message)) }
+        ensures { result ≡ (not (has_protected_history self.now.state.tables user stream)
+            || is_some (receipt_of self.now.state.tables user message)) }
     {
         let is_protected = self
             .stream(stream)

@@ -197,7 +197,8 @@ impl RealmCore {
         user: UserId,
         full_name: &PlainText,
     ) -> Option<Refusal>
-        ensures { result ≡ refusal (length self.now.notices) self.now.tables actor (Command.UserUpdate user full_name.now) }
+        ensures { result ≡ refusal (length self.now.notices) self.now.tables actor
+            (Command.UserUpdate user full_name.now) }
     {
         if !self.is_active(actor) {
             return Some(Refusal::ActorUnknown);

@@ -10,7 +10,9 @@ use zw_lines::Notice;
 
 /// The place of a queue.
 pub fn place(queues: &[Queue], queue: QueueId) -> Option<usize>
-    ensures found { MatchOption result (find_queue queue (map seen queues.now) ≡ None) (IsQueueAt queue (map seen queues.now)) }
+    ensures found { MatchOption result
+        (find_queue queue (map seen queues.now) ≡ None)
+        (IsQueueAt queue (map seen queues.now)) }
     ensures within { IfSome result (λ at. at < length queues.now) }
 {
     for (at, held) in queues.iter().enumerate() {

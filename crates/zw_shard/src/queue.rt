@@ -82,7 +82,8 @@ impl Queue {
 
     // Makes these events ready too.
     fn stage_events(&mut self, events: &[Event]) -> Result<(), NoMemory>
-        ensures ok { IfOk result (λ _. self.new ≡ record self.old { staged = self.old.staged ++ events.now }) }
+        ensures ok { IfOk result
+            (λ _. self.new ≡ record self.old { staged = self.old.staged ++ events.now }) }
         ensures queue { self.new.queue ≡ self.old.queue }
     {
         for event in events {
@@ -93,7 +94,8 @@ impl Queue {
 
     // Makes one event more ready. Where its id would not fit, memory is refused.
     fn stage_event(&mut self, event: &Event) -> Result<(), NoMemory>
-        ensures ok { IfOk result (λ _. self.new ≡ record self.old { staged = self.old.staged ++ event.now ∷ [] }) }
+        ensures ok { IfOk result
+            (λ _. self.new ≡ record self.old { staged = self.old.staged ++ event.now ∷ [] }) }
         ensures queue { self.new.queue ≡ self.old.queue }
     {
         let copy = event.clone()?;
