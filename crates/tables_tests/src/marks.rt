@@ -14,8 +14,8 @@ fn reaction(alloc: Global, emoji: &str) -> Result<(MessageId, UserId, Text), Tex
 
 // Puts a reaction, with room made for it, and answers whether it was there.
 fn put(table: &mut Marks, alloc: Global, emoji: &str) -> Result<bool, Fail> {
-    let key = reaction(alloc, emoji)?;
     table.reactions_reserve(1)?;
+    let key = reaction(alloc, emoji)?;
     Ok(table.reactions_put(key, ()).is_some())
 }
 
@@ -30,35 +30,47 @@ fn drop_key(table: &mut Marks, alloc: Global, emoji: &str) -> Result<bool, Fail>
 
 // Drops the reactions from `low` to `high`, and answers how many.
 fn drop_between(table: &mut Marks, alloc: Global, low: &str, high: &str) -> Result<u64, Fail> {
-    let (low, high) = (reaction(alloc, low)?, reaction(alloc, high)?);
-    Ok(table.reactions_drop_between(&low, &high))
+    let low = reaction(alloc, low)?;
+    drop_to(table, alloc, &low, high)
 }
 
-fn two_reactions(alloc: Global) -> Result<Marks, Fail> {
-    let mut table = Marks::new(alloc);
-    put(&mut table, alloc, "tada")?;
-    put(&mut table, alloc, "+1")?;
-    Ok(table)
+fn drop_to(
+    table: &mut Marks,
+    alloc: Global,
+    low: &(MessageId, UserId, Text),
+    high: &str,
+) -> Result<u64, Fail> {
+    let high = reaction(alloc, high)?;
+    Ok(table.reactions_drop_between(low, &high))
 }
 
-// Puts a reaction again: whether two others are there, whether it was there, and how many there are.
-fn put_again(alloc: Global) -> Result<(bool, bool, bool, usize), Fail> {
-    let mut table = two_reactions(alloc)?;
-    let plus = has(&table, alloc, "+1")?;
-    let minus = has(&table, alloc, "-1")?;
-    let tada = put(&mut table, alloc, "tada")?;
+fn put_two(table: &mut Marks, alloc: Global) -> Result<(), Fail> {
+    put(table, alloc, "tada")?;
+    put(table, alloc, "+1")?;
+    Ok(())
+}
+
+// Puts two reactions, and one of them again: whether two others are there, whether it was there, and
+// how many there are.
+fn put_again(table: &mut Marks, alloc: Global) -> Result<(bool, bool, bool, usize), Fail> {
+    put_two(table, alloc)?;
+    let plus = has(table, alloc, "+1")?;
+    let minus = has(table, alloc, "-1")?;
+    let tada = put(table, alloc, "tada")?;
     Ok((plus, minus, tada, table.reactions_rows().len()))
 }
 
 #[test]
 fn reactions_are_put_and_read(rt: HostRuntime) -> Result<(), Fail> {
-    same(&rt, put_again(rt.alloc())?, (true, false, true, 2));
+    let found = put_again(&mut Marks::new(rt.alloc()), rt.alloc())?;
+    same(&rt, found, (true, false, true, 2));
     Ok(())
 }
 
-// Keeps the reactions to messages below a number: how many there are then.
+// Puts two reactions, and keeps those to messages below a number: how many there are then.
 fn kept_below(alloc: Global, message: u32) -> Result<usize, Fail> {
-    let mut table = two_reactions(alloc)?;
+    let mut table = Marks::new(alloc);
+    put_two(&mut table, alloc)?;
     table.reactions_keep(|row| row.0.0.0 < message);
     Ok(table.reactions_rows().len())
 }
@@ -73,18 +85,19 @@ fn reactions_that_pass_a_test_stay(rt: HostRuntime) -> Result<(), Fail> {
     Ok(())
 }
 
-// Drops one by its key, then from a key to a lower one, and then the other: whether the first was
-// there, how many went, and how many stay.
-fn dropped(alloc: Global) -> Result<(bool, u64, u64, usize), Fail> {
-    let mut table = two_reactions(alloc)?;
-    let plus = drop_key(&mut table, alloc, "+1")?;
-    let backwards = drop_between(&mut table, alloc, "tada", "+1")?;
-    let forwards = drop_between(&mut table, alloc, "+1", "tada")?;
+// Puts two reactions, and drops one by its key, then from a key to a lower one, and then the other:
+// whether the first was there, how many went, and how many stay.
+fn dropped(table: &mut Marks, alloc: Global) -> Result<(bool, u64, u64, usize), Fail> {
+    put_two(table, alloc)?;
+    let plus = drop_key(table, alloc, "+1")?;
+    let backwards = drop_between(table, alloc, "tada", "+1")?;
+    let forwards = drop_between(table, alloc, "+1", "tada")?;
     Ok((plus, backwards, forwards, table.reactions_rows().len()))
 }
 
 #[test]
 fn reactions_are_dropped(rt: HostRuntime) -> Result<(), Fail> {
-    same(&rt, dropped(rt.alloc())?, (true, 0, 1, 0));
+    let found = dropped(&mut Marks::new(rt.alloc()), rt.alloc())?;
+    same(&rt, found, (true, 0, 1, 0));
     Ok(())
 }

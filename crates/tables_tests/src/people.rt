@@ -25,18 +25,22 @@ fn user(alloc: Global, name: &str) -> Result<User, TextFault> {
 
 // Writes a user's row, with room made for it, and answers whether the row before was active.
 fn put(table: &mut Users, alloc: Global, number: u32, name: &str) -> Result<Option<bool>, Fail> {
-    let row = user(alloc, name)?;
     table.users_reserve(1)?;
+    let row = user(alloc, name)?;
     let before = table.users_put(UserId(number), row);
     Ok(before.map(|row| row.is_active))
 }
 
-// Users 1 and 2.
-fn ann_and_bob(alloc: Global) -> Result<Users, Fail> {
-    let mut table = Users::new(alloc, realm_row(alloc, "Realm")?);
-    put(&mut table, alloc, 2, "Bob")?;
-    put(&mut table, alloc, 1, "Ann")?;
-    Ok(table)
+// A table without users.
+fn no_users(alloc: Global) -> Result<Users, TextFault> {
+    Ok(Users::new(alloc, realm_row(alloc, "Realm")?))
+}
+
+// Writes users 1 and 2.
+fn put_ann_and_bob(table: &mut Users, alloc: Global) -> Result<(), Fail> {
+    put(table, alloc, 2, "Bob")?;
+    put(table, alloc, 1, "Ann")?;
+    Ok(())
 }
 
 fn is_named(table: &Users, number: u32, name: &str) -> Option<bool> {
@@ -50,31 +54,31 @@ fn deactivate(table: &mut Users, number: u32) {
     }
 }
 
-// Puts Cat over Bob, who was deactivated: whether the row before was active, and whether each of
-// three users is Cat then.
-fn put_over_bob(alloc: Global) -> Result<[Option<bool>; 4], Fail> {
-    let mut table = ann_and_bob(alloc)?;
-    deactivate(&mut table, 2);
-    let before = put(&mut table, alloc, 2, "Cat")?;
+// Writes two users, and Cat over Bob, who was deactivated: whether the row before was active, and
+// whether each of three users is Cat then.
+fn put_over_bob(table: &mut Users, alloc: Global) -> Result<[Option<bool>; 4], Fail> {
+    put_ann_and_bob(table, alloc)?;
+    deactivate(table, 2);
+    let before = put(table, alloc, 2, "Cat")?;
     Ok([
         before,
-        is_named(&table, 1, "Cat"),
-        is_named(&table, 2, "Cat"),
-        is_named(&table, 3, "Cat"),
+        is_named(table, 1, "Cat"),
+        is_named(table, 2, "Cat"),
+        is_named(table, 3, "Cat"),
     ])
 }
 
 #[test]
 fn users_are_read_changed_and_replaced(rt: HostRuntime) -> Result<(), Fail> {
-    let cat = [Some(false), Some(false), Some(true), None];
-    same(&rt, put_over_bob(rt.alloc())?, cat);
+    let found = put_over_bob(&mut no_users(rt.alloc())?, rt.alloc())?;
+    same(&rt, found, [Some(false), Some(false), Some(true), None]);
     Ok(())
 }
 
-// Drops Bob, and then all: how many there were, whether Bob was there, how many went, and how many
-// stay.
-fn dropped(alloc: Global) -> Result<(usize, bool, u64, usize), Fail> {
-    let mut table = ann_and_bob(alloc)?;
+// Writes two users, and drops Bob, and then all: how many there were, whether Bob was there, how
+// many went, and how many stay.
+fn dropped(table: &mut Users, alloc: Global) -> Result<(usize, bool, u64, usize), Fail> {
+    put_ann_and_bob(table, alloc)?;
     let before = table.users_rows().len();
     let bob = table.users_drop_key(&UserId(2)).is_some();
     let more = table.users_drop_between(&UserId(1), &UserId(9));
@@ -83,7 +87,8 @@ fn dropped(alloc: Global) -> Result<(usize, bool, u64, usize), Fail> {
 
 #[test]
 fn users_are_dropped(rt: HostRuntime) -> Result<(), Fail> {
-    same(&rt, dropped(rt.alloc())?, (2, true, 1, 0));
+    let found = dropped(&mut no_users(rt.alloc())?, rt.alloc())?;
+    same(&rt, found, (2, true, 1, 0));
     Ok(())
 }
 
@@ -91,26 +96,30 @@ fn realm_is(row: &RealmRow, name: &str, description: &str) -> bool {
     text_is(&row.name, name) && text_is(&row.description, description)
 }
 
-fn describe(table: &mut Users, description: Text) {
-    table.realm_row_mut().description = description;
+// Replaces the realm's row, and answers whether the row before was right.
+fn replace_realm_row(table: &mut Users, alloc: Global) -> Result<bool, Fail> {
+    let before = table.set_realm_row(realm_row(alloc, "Second")?);
+    Ok(realm_is(&before, "Realm", ""))
 }
 
-// Replaces the realm's row and then changes it: whether the row before and the row after are right.
-fn realm_changed(alloc: Global) -> Result<(bool, bool), Fail> {
-    let mut table = ann_and_bob(alloc)?;
-    let before = table.set_realm_row(realm_row(alloc, "Second")?);
-    describe(
-        &mut table,
-        Text::read(alloc, TextKind::RealmDescription, "About")?,
-    );
-    Ok((
-        realm_is(&before, "Realm", ""),
-        realm_is(table.realm_row(), "Second", "About"),
-    ))
+fn describe(table: &mut Users, alloc: Global) -> Result<(), Fail> {
+    let description = Text::read(alloc, TextKind::RealmDescription, "About")?;
+    table.realm_row_mut().description = description;
+    Ok(())
+}
+
+// Writes two users, and replaces the realm's row and then changes it: whether the row before and the
+// row after are right.
+fn realm_changed(table: &mut Users, alloc: Global) -> Result<(bool, bool), Fail> {
+    put_ann_and_bob(table, alloc)?;
+    let before = replace_realm_row(table, alloc)?;
+    describe(table, alloc)?;
+    Ok((before, realm_is(table.realm_row(), "Second", "About")))
 }
 
 #[test]
 fn the_realm_row_is_replaced_and_changed(rt: HostRuntime) -> Result<(), Fail> {
-    same(&rt, realm_changed(rt.alloc())?, (true, true));
+    let found = realm_changed(&mut no_users(rt.alloc())?, rt.alloc())?;
+    same(&rt, found, (true, true));
     Ok(())
 }

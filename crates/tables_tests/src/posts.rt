@@ -31,26 +31,25 @@ fn lunch(alloc: Global) -> Result<Place, TextFault> {
 fn message(alloc: Global, content: &str) -> Result<Message, TextFault> {
     Ok(Message {
         sender: UserId(1),
-        place: lunch(alloc)?,
         content: Text::read(alloc, TextKind::Content, content)?,
+        place: lunch(alloc)?,
         timestamp: 100,
     })
 }
 
 // Writes a message's row, with room made for it, and answers the time of the row before.
 fn put(table: &mut Posts, alloc: Global, number: u32, content: &str) -> Result<Option<u64>, Fail> {
-    let row = message(alloc, content)?;
     table.messages_reserve(1)?;
+    let row = message(alloc, content)?;
     let before = table.messages_put(MessageId(number), row);
     Ok(before.map(|row| row.timestamp))
 }
 
-// Messages 1 and 2.
-fn two_messages(alloc: Global) -> Result<Posts, Fail> {
-    let mut table = Posts::new(alloc);
-    put(&mut table, alloc, 2, "two")?;
-    put(&mut table, alloc, 1, "one")?;
-    Ok(table)
+// Writes messages 1 and 2.
+fn put_two(table: &mut Posts, alloc: Global) -> Result<(), Fail> {
+    put(table, alloc, 2, "two")?;
+    put(table, alloc, 1, "one")?;
+    Ok(())
 }
 
 fn says(table: &Posts, number: u32, content: &str) -> Option<bool> {
@@ -64,31 +63,34 @@ fn set_time(table: &mut Posts, number: u32, timestamp: u64) {
     }
 }
 
-// Puts a row over one whose time was changed: the time of the row before, and whether each of three
-// messages has the new content then.
-fn put_over_two(alloc: Global) -> Result<(Option<u64>, [Option<bool>; 3]), Fail> {
-    let mut table = two_messages(alloc)?;
-    set_time(&mut table, 2, 200);
-    let before = put(&mut table, alloc, 2, "new")?;
+// Writes two messages, and a row over one whose time was changed: the time of the row before, and
+// whether each of three messages has the new content then.
+fn put_over_two(
+    table: &mut Posts,
+    alloc: Global,
+) -> Result<(Option<u64>, [Option<bool>; 3]), Fail> {
+    put_two(table, alloc)?;
+    set_time(table, 2, 200);
+    let before = put(table, alloc, 2, "new")?;
     let new = [
-        says(&table, 1, "new"),
-        says(&table, 2, "new"),
-        says(&table, 3, "new"),
+        says(table, 1, "new"),
+        says(table, 2, "new"),
+        says(table, 3, "new"),
     ];
     Ok((before, new))
 }
 
 #[test]
 fn messages_are_read_changed_and_replaced(rt: HostRuntime) -> Result<(), Fail> {
-    let after = (Some(200), [Some(false), Some(true), None]);
-    same(&rt, put_over_two(rt.alloc())?, after);
+    let found = put_over_two(&mut Posts::new(rt.alloc()), rt.alloc())?;
+    same(&rt, found, (Some(200), [Some(false), Some(true), None]));
     Ok(())
 }
 
-// Drops message 2, and then all: how many there were, whether it was there, how many went, and how
-// many stay.
-fn dropped(alloc: Global) -> Result<(usize, bool, u64, usize), Fail> {
-    let mut table = two_messages(alloc)?;
+// Writes two messages, and drops message 2, and then all: how many there were, whether it was there,
+// how many went, and how many stay.
+fn dropped(table: &mut Posts, alloc: Global) -> Result<(usize, bool, u64, usize), Fail> {
+    put_two(table, alloc)?;
     let before = table.messages_rows().len();
     let two = table.messages_drop_key(&MessageId(2)).is_some();
     let more = table.messages_drop_between(&MessageId(1), &MessageId(9));
@@ -97,7 +99,8 @@ fn dropped(alloc: Global) -> Result<(usize, bool, u64, usize), Fail> {
 
 #[test]
 fn messages_are_dropped(rt: HostRuntime) -> Result<(), Fail> {
-    same(&rt, dropped(rt.alloc())?, (2, true, 1, 0));
+    let found = dropped(&mut Posts::new(rt.alloc()), rt.alloc())?;
+    same(&rt, found, (2, true, 1, 0));
     Ok(())
 }
 
@@ -130,17 +133,15 @@ fn merge(
     Ok(())
 }
 
-// Users 1, 2 and 3 got message 7, and user 2 also message 1.
-fn four_receipts(alloc: Global) -> Result<Posts, Fail> {
-    let mut table = Posts::new(alloc);
-    put_receipt(&mut table, receipt_key(2, 1), UNREAD)?;
+// Users 1, 2 and 3 get message 7, and user 2 also message 1.
+fn put_four(table: &mut Posts, alloc: Global) -> Result<(), Fail> {
+    put_receipt(table, receipt_key(2, 1), UNREAD)?;
     let rows = [
         (receipt_key(1, 7), UNREAD),
         (receipt_key(2, 7), STARRED),
         (receipt_key(3, 7), UNREAD),
     ];
-    merge(&mut table, alloc, &rows)?;
-    Ok(table)
+    merge(table, alloc, &rows)
 }
 
 #[test]
@@ -151,11 +152,9 @@ fn new_receipts_go_among_the_old_ones(rt: HostRuntime) -> Result<(), Fail> {
         (receipt_key(2, 7), STARRED),
         (receipt_key(3, 7), UNREAD),
     ];
-    same(
-        &rt,
-        four_receipts(rt.alloc())?.receipts_rows(),
-        all.as_slice(),
-    );
+    let mut table = Posts::new(rt.alloc());
+    put_four(&mut table, rt.alloc())?;
+    same(&rt, table.receipts_rows(), all.as_slice());
     Ok(())
 }
 
@@ -169,25 +168,29 @@ fn star(table: &mut Posts, user: u32, message: u32) {
     }
 }
 
-// Stars a receipt, and puts a row over it: the row before, the row then, and one that isn't there.
-fn put_over_starred(alloc: Global) -> Result<[Option<Receipt>; 3], Fail> {
-    let mut table = four_receipts(alloc)?;
-    star(&mut table, 1, 7);
-    let before = put_receipt(&mut table, receipt_key(1, 7), UNREAD)?;
-    Ok([before, receipt_of(&table, 1, 7), receipt_of(&table, 3, 1)])
+// Writes four receipts, stars one, and puts a row over it: the row before, the row then, and one
+// that isn't there.
+fn put_over_starred(table: &mut Posts, alloc: Global) -> Result<[Option<Receipt>; 3], Fail> {
+    put_four(table, alloc)?;
+    star(table, 1, 7);
+    let before = put_receipt(table, receipt_key(1, 7), UNREAD)?;
+    Ok([before, receipt_of(table, 1, 7), receipt_of(table, 3, 1)])
 }
 
 #[test]
 fn a_receipt_is_changed_and_replaced(rt: HostRuntime) -> Result<(), Fail> {
-    let receipts = [Some(STARRED), Some(UNREAD), None];
-    same(&rt, put_over_starred(rt.alloc())?, receipts);
+    let found = put_over_starred(&mut Posts::new(rt.alloc()), rt.alloc())?;
+    same(&rt, found, [Some(STARRED), Some(UNREAD), None]);
     Ok(())
 }
 
-// Keeps the receipts of message 7, drops one, and then all: how many there were, the one that was
-// dropped, how many more went, and how many stay.
-fn receipts_dropped(alloc: Global) -> Result<(usize, Option<Receipt>, u64, usize), Fail> {
-    let mut table = four_receipts(alloc)?;
+// Writes four receipts, keeps those of message 7, drops one, and then all: how many there were, the
+// one that was dropped, how many more went, and how many stay.
+fn receipts_dropped(
+    table: &mut Posts,
+    alloc: Global,
+) -> Result<(usize, Option<Receipt>, u64, usize), Fail> {
+    put_four(table, alloc)?;
     table.receipts_keep(|row| row.0.1.0 == 7);
     let kept = table.receipts_rows().len();
     let one = table.receipts_drop_key(&receipt_key(2, 7));
@@ -197,6 +200,7 @@ fn receipts_dropped(alloc: Global) -> Result<(usize, Option<Receipt>, u64, usize
 
 #[test]
 fn receipts_are_kept_and_dropped(rt: HostRuntime) -> Result<(), Fail> {
-    same(&rt, receipts_dropped(rt.alloc())?, (3, Some(STARRED), 2, 0));
+    let found = receipts_dropped(&mut Posts::new(rt.alloc()), rt.alloc())?;
+    same(&rt, found, (3, Some(STARRED), 2, 0));
     Ok(())
 }

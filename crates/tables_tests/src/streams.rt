@@ -17,18 +17,17 @@ fn stream(alloc: Global, name: &str) -> Result<Stream, TextFault> {
 
 // Writes a stream's row, with room made for it, and answers whether the row before was archived.
 fn put(table: &mut Streams, alloc: Global, number: u32, name: &str) -> Result<Option<bool>, Fail> {
-    let row = stream(alloc, name)?;
     table.streams_reserve(1)?;
+    let row = stream(alloc, name)?;
     let before = table.streams_put(StreamId(number), row);
     Ok(before.map(|row| row.archived))
 }
 
-// Streams 1 and 2.
-fn hall_and_lab(alloc: Global) -> Result<Streams, Fail> {
-    let mut table = Streams::new(alloc);
-    put(&mut table, alloc, 2, "lab")?;
-    put(&mut table, alloc, 1, "hall")?;
-    Ok(table)
+// Writes streams 1 and 2.
+fn put_hall_and_lab(table: &mut Streams, alloc: Global) -> Result<(), Fail> {
+    put(table, alloc, 2, "lab")?;
+    put(table, alloc, 1, "hall")?;
+    Ok(())
 }
 
 fn is_named(table: &Streams, number: u32, name: &str) -> Option<bool> {
@@ -42,31 +41,31 @@ fn archive(table: &mut Streams, number: u32) {
     }
 }
 
-// Puts the attic over the lab, which was archived: whether the row before was archived, and whether
-// each of three streams is the attic then.
-fn put_over_lab(alloc: Global) -> Result<[Option<bool>; 4], Fail> {
-    let mut table = hall_and_lab(alloc)?;
-    archive(&mut table, 2);
-    let before = put(&mut table, alloc, 2, "attic")?;
+// Writes two streams, and the attic over the lab, which was archived: whether the row before was
+// archived, and whether each of three streams is the attic then.
+fn put_over_lab(table: &mut Streams, alloc: Global) -> Result<[Option<bool>; 4], Fail> {
+    put_hall_and_lab(table, alloc)?;
+    archive(table, 2);
+    let before = put(table, alloc, 2, "attic")?;
     Ok([
         before,
-        is_named(&table, 1, "attic"),
-        is_named(&table, 2, "attic"),
-        is_named(&table, 3, "attic"),
+        is_named(table, 1, "attic"),
+        is_named(table, 2, "attic"),
+        is_named(table, 3, "attic"),
     ])
 }
 
 #[test]
 fn streams_are_read_changed_and_replaced(rt: HostRuntime) -> Result<(), Fail> {
-    let attic = [Some(true), Some(false), Some(true), None];
-    same(&rt, put_over_lab(rt.alloc())?, attic);
+    let found = put_over_lab(&mut Streams::new(rt.alloc()), rt.alloc())?;
+    same(&rt, found, [Some(true), Some(false), Some(true), None]);
     Ok(())
 }
 
-// Drops the hall, and then all: how many there were, whether the hall was there, how many went, and
-// how many stay.
-fn dropped(alloc: Global) -> Result<(usize, bool, u64, usize), Fail> {
-    let mut table = hall_and_lab(alloc)?;
+// Writes two streams, and drops the hall, and then all: how many there were, whether the hall was
+// there, how many went, and how many stay.
+fn dropped(table: &mut Streams, alloc: Global) -> Result<(usize, bool, u64, usize), Fail> {
+    put_hall_and_lab(table, alloc)?;
     let before = table.streams_rows().len();
     let hall = table.streams_drop_key(&StreamId(1)).is_some();
     let more = table.streams_drop_between(&StreamId(1), &StreamId(2));
@@ -75,7 +74,8 @@ fn dropped(alloc: Global) -> Result<(usize, bool, u64, usize), Fail> {
 
 #[test]
 fn streams_are_dropped(rt: HostRuntime) -> Result<(), Fail> {
-    same(&rt, dropped(rt.alloc())?, (2, true, 1, 0));
+    let found = dropped(&mut Streams::new(rt.alloc()), rt.alloc())?;
+    same(&rt, found, (2, true, 1, 0));
     Ok(())
 }
 
@@ -100,17 +100,16 @@ fn subscribe(
     key: (UserId, StreamId),
     color: &str,
 ) -> Result<Option<bool>, Fail> {
-    let row = subscription(alloc, color)?;
     table.subscriptions_reserve(1)?;
+    let row = subscription(alloc, color)?;
     let before = table.subscriptions_put(key, row);
     Ok(before.map(|row| row.is_muted))
 }
 
-fn two_subscriptions(alloc: Global) -> Result<Streams, Fail> {
-    let mut table = Streams::new(alloc);
-    subscribe(&mut table, alloc, BOB_IN_HALL, "#c2c2c2")?;
-    subscribe(&mut table, alloc, ANN_IN_LAB, "#ff0000")?;
-    Ok(table)
+fn subscribe_bob_and_ann(table: &mut Streams, alloc: Global) -> Result<(), Fail> {
+    subscribe(table, alloc, BOB_IN_HALL, "#c2c2c2")?;
+    subscribe(table, alloc, ANN_IN_LAB, "#ff0000")?;
+    Ok(())
 }
 
 fn is_colored(table: &Streams, key: (UserId, StreamId), color: &str) -> Option<bool> {
@@ -124,31 +123,34 @@ fn mute(table: &mut Streams, key: (UserId, StreamId)) {
     }
 }
 
-// Puts a green subscription over a muted one: whether the row before was muted, and whether each of
-// three subscriptions is green then.
-fn put_over_muted(alloc: Global) -> Result<[Option<bool>; 4], Fail> {
-    let mut table = two_subscriptions(alloc)?;
-    mute(&mut table, BOB_IN_HALL);
-    let before = subscribe(&mut table, alloc, BOB_IN_HALL, "#00ff00")?;
+// Subscribes two, and puts a green subscription over a muted one: whether the row before was muted,
+// and whether each of three subscriptions is green then.
+fn put_over_muted(table: &mut Streams, alloc: Global) -> Result<[Option<bool>; 4], Fail> {
+    subscribe_bob_and_ann(table, alloc)?;
+    mute(table, BOB_IN_HALL);
+    let before = subscribe(table, alloc, BOB_IN_HALL, "#00ff00")?;
     Ok([
         before,
-        is_colored(&table, ANN_IN_LAB, "#00ff00"),
-        is_colored(&table, BOB_IN_HALL, "#00ff00"),
-        is_colored(&table, BOB_IN_LAB, "#00ff00"),
+        is_colored(table, ANN_IN_LAB, "#00ff00"),
+        is_colored(table, BOB_IN_HALL, "#00ff00"),
+        is_colored(table, BOB_IN_LAB, "#00ff00"),
     ])
 }
 
 #[test]
 fn subscriptions_are_read_changed_and_replaced(rt: HostRuntime) -> Result<(), Fail> {
-    let green = [Some(true), Some(false), Some(true), None];
-    same(&rt, put_over_muted(rt.alloc())?, green);
+    let found = put_over_muted(&mut Streams::new(rt.alloc()), rt.alloc())?;
+    same(&rt, found, [Some(true), Some(false), Some(true), None]);
     Ok(())
 }
 
-// Drops Bob's, and then all of Ann's: how many there were, whether Bob's was there, how many went,
-// and how many stay.
-fn subscriptions_dropped(alloc: Global) -> Result<(usize, bool, u64, usize), Fail> {
-    let mut table = two_subscriptions(alloc)?;
+// Subscribes two, and drops Bob's, and then all of Ann's: how many there were, whether Bob's was
+// there, how many went, and how many stay.
+fn subscriptions_dropped(
+    table: &mut Streams,
+    alloc: Global,
+) -> Result<(usize, bool, u64, usize), Fail> {
+    subscribe_bob_and_ann(table, alloc)?;
     let before = table.subscriptions_rows().len();
     let bob = table.subscriptions_drop_key(&BOB_IN_HALL).is_some();
     let low = (UserId(1), StreamId(0));
@@ -158,6 +160,7 @@ fn subscriptions_dropped(alloc: Global) -> Result<(usize, bool, u64, usize), Fai
 
 #[test]
 fn subscriptions_are_dropped(rt: HostRuntime) -> Result<(), Fail> {
-    same(&rt, subscriptions_dropped(rt.alloc())?, (2, true, 1, 0));
+    let found = subscriptions_dropped(&mut Streams::new(rt.alloc()), rt.alloc())?;
+    same(&rt, found, (2, true, 1, 0));
     Ok(())
 }
