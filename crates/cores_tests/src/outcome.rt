@@ -17,15 +17,26 @@ fn print(alloc: Global, outcomes: &[Outcome]) -> Result<Vec<u8>, NoMemory> {
     Ok(lines)
 }
 
-/// The line that is printed for a registration of no rows.
-fn print_finished(alloc: Global) -> Result<Vec<u8>, NoMemory> {
-    let finished = Outcome::Finished {
+/// The line that is printed for an outcome.
+fn print_one(alloc: Global, outcome: &Outcome) -> Result<Vec<u8>, NoMemory> {
+    let mut line = Vec::new(alloc);
+    outcome.write(alloc, &mut line)?;
+    Ok(line)
+}
+
+/// The outcome of a registration of no rows.
+fn finished(alloc: Global) -> Outcome {
+    Outcome::Finished {
         reached: 1,
         queue: QUEUE,
         last_event_id: -1,
         rows: RowList::from(Keyed::new(alloc)),
-    };
-    print(alloc, &[finished])
+    }
+}
+
+/// The line that is printed for a registration of no rows.
+fn print_finished(alloc: Global) -> Result<Vec<u8>, NoMemory> {
+    print_one(alloc, &finished(alloc))
 }
 
 /// The line that is printed for an answer of no items.

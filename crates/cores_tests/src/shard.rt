@@ -5,7 +5,7 @@ use ev_base::{Keyed, Listed, RowList, UserId};
 use std::alloc::Global;
 use std::process::Abort;
 use std::test::Fail;
-use zw_lines::{Event, Notice, Part, ShardInput, ShardReply};
+use zw_lines::{Event, Notice, Part, Person, ShardInput, ShardReply};
 use zw_shard::ShardCore;
 
 /// What a shard is asked, of Ann's first queue where it is about a queue.
@@ -58,15 +58,29 @@ fn push(
 }
 
 fn finish(shard: &mut ShardCore, alloc: Global) -> Result<ShardReply, Fail> {
+    let rows = only_ann(alloc)?;
+    Ok(finish_with(shard, alloc, rows))
+}
+
+fn finish_with(shard: &mut ShardCore, alloc: Global, rows: Keyed<UserId, Person>) -> ShardReply {
     let queue = QUEUE;
-    let mut rows = Keyed::new(alloc);
-    rows.reserve(1)?;
-    rows.put(ANN, ann(alloc)?);
     let part = Part {
         rows: RowList::from(rows),
         at: 0,
     };
-    Ok(shard.step(alloc, ShardInput::Finish { queue, part }))
+    shard.step(alloc, ShardInput::Finish { queue, part })
+}
+
+fn only_ann(alloc: Global) -> Result<Keyed<UserId, Person>, Fail> {
+    let mut rows = Keyed::new(alloc);
+    put_ann(&mut rows, alloc)?;
+    Ok(rows)
+}
+
+fn put_ann(rows: &mut Keyed<UserId, Person>, alloc: Global) -> Result<(), Fail> {
+    rows.reserve(1)?;
+    rows.put(ANN, ann(alloc)?);
+    Ok(())
 }
 
 fn renamed(alloc: Global, full_name: &str) -> Result<Listed<Event>, Fail> {
