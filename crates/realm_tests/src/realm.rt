@@ -4,7 +4,7 @@
 
 use crate::sample_realm::{
     ANN, BOB, CARL, DAN, DEN, FOUR, LAB, NOBODY, OLD_LAB, ONE, SENT, THREE, TWO, Tables, VAULT,
-    add_reaction, add_stream, add_subscription, add_user, realm_of, sample_realm, sample_tables,
+    add_reaction, add_stream, add_subscription, add_user, of_sample, realm_of, sample_tables,
 };
 use ev_base::{MessageId, NoMemory, Privacy, Role, StreamId, UserId};
 use std::alloc::Global;
@@ -21,13 +21,14 @@ fn sees_stream(realm: &Realm, user: UserId, stream: StreamId) -> bool {
 
 // Whether the user sees lab, den, vault and old lab.
 fn streams_seen(alloc: Global, user: UserId) -> Result<[bool; 4], Fail> {
-    let realm = sample_realm(alloc)?;
-    Ok([
-        sees_stream(&realm, user, LAB),
-        sees_stream(&realm, user, DEN),
-        sees_stream(&realm, user, VAULT),
-        sees_stream(&realm, user, OLD_LAB),
-    ])
+    of_sample(alloc, |realm| {
+        Ok([
+            sees_stream(realm, user, LAB),
+            sees_stream(realm, user, DEN),
+            sees_stream(realm, user, VAULT),
+            sees_stream(realm, user, OLD_LAB),
+        ])
+    })
 }
 
 fn sees_message(realm: &Realm, user: UserId, message: MessageId) -> bool {
@@ -36,30 +37,33 @@ fn sees_message(realm: &Realm, user: UserId, message: MessageId) -> bool {
 
 // Whether the user sees the first four messages.
 fn messages_seen(alloc: Global, user: UserId) -> Result<[bool; 4], Fail> {
-    let realm = sample_realm(alloc)?;
-    Ok([
-        sees_message(&realm, user, ONE),
-        sees_message(&realm, user, TWO),
-        sees_message(&realm, user, THREE),
-        sees_message(&realm, user, FOUR),
-    ])
+    of_sample(alloc, |realm| {
+        Ok([
+            sees_message(realm, user, ONE),
+            sees_message(realm, user, TWO),
+            sees_message(realm, user, THREE),
+            sees_message(realm, user, FOUR),
+        ])
+    })
 }
 
 // Whether the user sees a stream and a message that aren't there.
 fn sees_unknown(alloc: Global, user: UserId) -> Result<bool, Fail> {
-    let realm = sample_realm(alloc)?;
-    Ok(sees_stream(&realm, user, StreamId(5)) || sees_message(&realm, user, MessageId(6)))
+    of_sample(alloc, |realm| {
+        Ok(sees_stream(realm, user, StreamId(5)) || sees_message(realm, user, MessageId(6)))
+    })
 }
 
 // Whether the user exists, is active, is subscribed to the vault and received message one.
 fn facts(alloc: Global, user: UserId) -> Result<[bool; 4], Fail> {
-    let realm = sample_realm(alloc)?;
-    Ok([
-        realm.is_user(user),
-        realm.is_active_user(user),
-        realm.is_subscribed(user, VAULT),
-        realm.has_receipt(user, ONE),
-    ])
+    of_sample(alloc, |realm| {
+        Ok([
+            realm.is_user(user),
+            realm.is_active_user(user),
+            realm.is_subscribed(user, VAULT),
+            realm.has_receipt(user, ONE),
+        ])
+    })
 }
 
 fn name_of(realm: &Realm, user: UserId) -> Option<&str> {
@@ -102,10 +106,13 @@ fn look_up(realm: &Realm) -> Found<'_> {
     }
 }
 
-fn rows_found(alloc: Global) -> Result<String, Fail> {
-    let realm = sample_realm(alloc)?;
-    let rows = look_up(&realm);
+fn told_rows(alloc: Global, realm: &Realm) -> Result<String, Fail> {
+    let rows = look_up(realm);
     Ok(format!(in alloc; "{rows:?}")?)
+}
+
+fn rows_found(alloc: Global) -> Result<String, Fail> {
+    of_sample(alloc, |realm| told_rows(alloc, realm))
 }
 
 fn users(people: &Users) -> usize {
@@ -164,8 +171,7 @@ fn told_new(alloc: Global) -> Result<String, Fail> {
 }
 
 fn told_sample(alloc: Global) -> Result<String, Fail> {
-    let realm = sample_realm(alloc)?;
-    told(alloc, &realm)
+    of_sample(alloc, |realm| told(alloc, realm))
 }
 
 // Nothing is to be proved here, and a tactic takes long to see it.
@@ -174,10 +180,13 @@ fn copied(realm: &Realm) -> Result<Realm, NoMemory> {
     realm.copy()
 }
 
-fn told_copy(alloc: Global) -> Result<String, Fail> {
-    let realm = sample_realm(alloc)?;
-    let copy = copied(&realm)?;
+fn told_copy_of(alloc: Global, realm: &Realm) -> Result<String, Fail> {
+    let copy = copied(realm)?;
     told(alloc, &copy)
+}
+
+fn told_copy(alloc: Global) -> Result<String, Fail> {
+    of_sample(alloc, |realm| told_copy_of(alloc, realm))
 }
 
 // What is added to the tables of the sample: a user of this email, a stream of this name, a
@@ -220,11 +229,15 @@ fn add(tables: &mut Tables, alloc: Global, extra: Extra) -> Result<(), Fail> {
     }
 }
 
+fn are_sound(alloc: Global, tables: Tables, sent: u64) -> Result<bool, Fail> {
+    Ok(realm_of(alloc, tables, sent)?.is_some())
+}
+
 // Whether the sample with this addition makes a realm.
 fn is_sound_with(alloc: Global, extra: Extra, sent: u64) -> Result<bool, Fail> {
     let mut tables = sample_tables(alloc)?;
     add(&mut tables, alloc, extra)?;
-    Ok(realm_of(alloc, tables, sent)?.is_some())
+    are_sound(alloc, tables, sent)
 }
 
 #[test]
@@ -244,10 +257,11 @@ fn a_realm_of_tables_and_its_copy_have_their_rows(rt: HostRuntime) -> Result<(),
 
 #[test]
 fn the_laws_of_a_realm_can_be_called(rt: HostRuntime) -> Result<(), Fail> {
-    let realm = sample_realm(rt.alloc())?;
-    realm.is_sound();
-    realm.tables_rise();
-    Ok(())
+    of_sample(rt.alloc(), |realm| {
+        realm.is_sound();
+        realm.tables_rise();
+        Ok(())
+    })
 }
 
 #[test]

@@ -77,7 +77,15 @@ pub struct Tables {
     pub marks: Marks,
 }
 
-pub fn sample_realm(alloc: Global) -> Result<Realm, Fail> {
+/// What is told of the sample realm. No test owns it: proofs on functions that do are dear.
+pub fn of_sample<R, F: Fn(&Realm) -> Result<R, Fail>>(alloc: Global, tell: F) -> Result<R, Fail>
+    requires calls { F.IsAlwaysCallable tell }
+{
+    let realm = sample_realm(alloc)?;
+    tell(&realm)
+}
+
+fn sample_realm(alloc: Global) -> Result<Realm, Fail> {
     let made = realm_of(alloc, sample_tables(alloc)?, SENT)?;
     Ok(made.ok_or("the sample is sound")?)
 }
@@ -94,19 +102,32 @@ pub fn realm_of(alloc: Global, tables: Tables, sent: u64) -> Result<Option<Realm
 }
 
 pub fn sample_tables(alloc: Global) -> Result<Tables, Fail> {
+    let mut tables = empty_tables(alloc)?;
+    fill(&mut tables, alloc)?;
+    Ok(tables)
+}
+
+fn empty_tables(alloc: Global) -> Result<Tables, TextFault> {
+    let row = realm_row(alloc)?;
     Ok(Tables {
-        people: people(alloc)?,
-        streams: streams(alloc)?,
-        posts: posts(alloc)?,
-        marks: marks(alloc)?,
+        people: Users::new(alloc, row),
+        streams: Streams::new(alloc),
+        posts: Posts::new(alloc),
+        marks: Marks::new(alloc),
     })
 }
 
-fn people(alloc: Global) -> Result<Users, Fail> {
-    let mut people = Users::new(alloc, realm_row(alloc)?);
-    add_users(&mut people, alloc)?;
-    deactivate(&mut people, DAN);
-    Ok(people)
+fn fill(tables: &mut Tables, alloc: Global) -> Result<(), Fail> {
+    add_people(&mut tables.people, alloc)?;
+    add_streams(&mut tables.streams, alloc)?;
+    add_posts(&mut tables.posts, alloc)?;
+    add_marks(&mut tables.marks, alloc)
+}
+
+fn add_people(people: &mut Users, alloc: Global) -> Result<(), Fail> {
+    add_users(people, alloc)?;
+    deactivate(people, DAN);
+    Ok(())
 }
 
 fn add_users(people: &mut Users, alloc: Global) -> Result<(), Fail> {
@@ -116,30 +137,30 @@ fn add_users(people: &mut Users, alloc: Global) -> Result<(), Fail> {
     add_user(people, alloc, DAN, "dan@x.org", "Dan", Role::Member)
 }
 
-fn streams(alloc: Global) -> Result<Streams, Fail> {
-    let mut streams = Streams::new(alloc);
-    add_streams(&mut streams, alloc)?;
-    archive(&mut streams, OLD_LAB);
-    let of_ann = [(ANN, LAB), (ANN, DEN), (ANN, VAULT), (ANN, OLD_LAB)];
-    add_subscriptions(&mut streams, alloc, &of_ann)?;
-    let of_bob = [(BOB, LAB), (BOB, DEN), (BOB, VAULT)];
-    add_subscriptions(&mut streams, alloc, &of_bob)?;
-    add_subscriptions(&mut streams, alloc, &[(CARL, DEN), (DAN, VAULT)])?;
-    Ok(streams)
+fn add_streams(streams: &mut Streams, alloc: Global) -> Result<(), Fail> {
+    add_all_streams(streams, alloc)?;
+    archive(streams, OLD_LAB);
+    add_all_subscriptions(streams, alloc)
 }
 
-fn add_streams(streams: &mut Streams, alloc: Global) -> Result<(), Fail> {
+fn add_all_subscriptions(streams: &mut Streams, alloc: Global) -> Result<(), Fail> {
+    let of_ann = [(ANN, LAB), (ANN, DEN), (ANN, VAULT), (ANN, OLD_LAB)];
+    add_subscriptions(streams, alloc, &of_ann)?;
+    let of_bob = [(BOB, LAB), (BOB, DEN), (BOB, VAULT)];
+    add_subscriptions(streams, alloc, &of_bob)?;
+    add_subscriptions(streams, alloc, &[(CARL, DEN), (DAN, VAULT)])
+}
+
+fn add_all_streams(streams: &mut Streams, alloc: Global) -> Result<(), Fail> {
     add_stream(streams, alloc, LAB, "lab", Privacy::Public)?;
     add_stream(streams, alloc, DEN, "den", Privacy::Shared)?;
     add_stream(streams, alloc, VAULT, "vault", Privacy::Protected)?;
     add_stream(streams, alloc, OLD_LAB, "old lab", Privacy::Public)
 }
 
-fn posts(alloc: Global) -> Result<Posts, Fail> {
-    let mut posts = Posts::new(alloc);
-    add_messages(&mut posts, alloc)?;
-    add_all_receipts(&mut posts)?;
-    Ok(posts)
+fn add_posts(posts: &mut Posts, alloc: Global) -> Result<(), Fail> {
+    add_messages(posts, alloc)?;
+    add_all_receipts(posts)
 }
 
 fn add_messages(posts: &mut Posts, alloc: Global) -> Result<(), Fail> {
@@ -158,11 +179,9 @@ fn add_all_receipts(posts: &mut Posts) -> Result<(), Fail> {
     add_receipts(posts, &[(BOB, FOUR)], READ)
 }
 
-fn marks(alloc: Global) -> Result<Marks, Fail> {
-    let mut marks = Marks::new(alloc);
-    add_reaction(&mut marks, alloc, ONE, BOB)?;
-    add_reaction(&mut marks, alloc, THREE, ANN)?;
-    Ok(marks)
+fn add_marks(marks: &mut Marks, alloc: Global) -> Result<(), Fail> {
+    add_reaction(marks, alloc, ONE, BOB)?;
+    add_reaction(marks, alloc, THREE, ANN)
 }
 
 fn realm_row(alloc: Global) -> Result<RealmRow, TextFault> {

@@ -1,6 +1,6 @@
 //! Views: what users fetch of the sample realm.
 
-use crate::sample_realm::{ANN, BOB, CARL, DAN, NOBODY, sample_realm};
+use crate::sample_realm::{ANN, BOB, CARL, DAN, NOBODY, of_sample};
 use ev_base::{MessageId, UserId};
 use ev_types::{Rows, Section, ShownMessage, State};
 use std::alloc::{AllocError, Global};
@@ -17,11 +17,26 @@ fn fetched_all(alloc: Global, realm: &Realm, user: UserId) -> Result<State, Fetc
     fetch_all(alloc, realm, user)
 }
 
-// A section of the sample realm as a user sees it, with a new line for each row.
+// `fetch`, of which nothing is claimed either.
+#[tactic(none)]
+fn fetched(
+    alloc: Global,
+    realm: &Realm,
+    user: UserId,
+    section: Section,
+) -> Result<Rows, FetchFault> {
+    fetch(alloc, realm, user, section)
+}
+
+// A section as a user sees it, with a new line for each row.
+fn seen_of(alloc: Global, realm: &Realm, user: UserId, section: Section) -> Result<String, Fail> {
+    let rows = fetched(alloc, realm, user, section)?;
+    told(alloc, &rows)
+}
+
+// A section of the sample realm as a user sees it.
 fn seen(alloc: Global, user: UserId, section: Section) -> Result<String, Fail> {
-    let realm = sample_realm(alloc)?;
-    let rows = fetch(alloc, &realm, user, section)?;
-    Ok(told(alloc, &rows)?)
+    of_sample(alloc, |realm| seen_of(alloc, realm, user, section))
 }
 
 // The section is as told there.
@@ -37,9 +52,9 @@ fn assert_seen(
     Ok(())
 }
 
-fn told(alloc: Global, rows: &Rows) -> Result<String, AllocError> {
+fn told(alloc: Global, rows: &Rows) -> Result<String, Fail> {
     match rows {
-        Rows::Realm(row) => format!(in alloc; "{row:?}"),
+        Rows::Realm(row) => Ok(format!(in alloc; "{row:?}")?),
         Rows::RealmUsers(list) => lines(alloc, list.rows()),
         Rows::Streams(list) => lines(alloc, list.rows()),
         Rows::Subscriptions(list) => lines(alloc, list.rows()),
@@ -51,7 +66,7 @@ fn told(alloc: Global, rows: &Rows) -> Result<String, AllocError> {
     }
 }
 
-fn lines<K: Debug, V: Debug>(alloc: Global, rows: &[(K, V)]) -> Result<String, AllocError> {
+fn lines<K: Debug, V: Debug>(alloc: Global, rows: &[(K, V)]) -> Result<String, Fail> {
     let mut text = String::new(alloc);
     for (key, value) in rows {
         write!(text, "\n{key:?} {value:?}")?;
@@ -60,7 +75,7 @@ fn lines<K: Debug, V: Debug>(alloc: Global, rows: &[(K, V)]) -> Result<String, A
 }
 
 // Messages have long rows, so each takes four lines.
-fn message_lines(alloc: Global, rows: &[(MessageId, ShownMessage)]) -> Result<String, AllocError> {
+fn message_lines(alloc: Global, rows: &[(MessageId, ShownMessage)]) -> Result<String, Fail> {
     let mut text = String::new(alloc);
     for (id, row) in rows {
         tell_message(&mut text, *id, row)?;
@@ -108,28 +123,34 @@ fn counts_of(state: &State) -> Counts {
     }
 }
 
-fn told_counts(alloc: Global, state: &State) -> Result<String, AllocError> {
-    let counts = counts_of(state);
-    format!(in alloc; "{counts:?}")
+// How many rows of each section a user sees.
+fn counts_seen(alloc: Global, realm: &Realm, user: UserId) -> Result<Counts, FetchFault> {
+    let state = fetched_all(alloc, realm, user)?;
+    Ok(counts_of(&state))
 }
 
-// All sections of the sample realm as a user sees them, by their counts.
+// All sections as a user sees them, by their counts.
+fn all_seen_of(alloc: Global, realm: &Realm, user: UserId) -> Result<String, Fail> {
+    let counts = counts_seen(alloc, realm, user)?;
+    Ok(format!(in alloc; "{counts:?}")?)
+}
+
+// All sections of the sample realm as a user sees them.
 fn all_seen(alloc: Global, user: UserId) -> Result<String, Fail> {
-    let realm = sample_realm(alloc)?;
-    let state = fetched_all(alloc, &realm, user)?;
-    Ok(told_counts(alloc, &state)?)
+    of_sample(alloc, |realm| all_seen_of(alloc, realm, user))
 }
 
 // Why a user can't fetch a section.
 fn fault(alloc: Global, user: UserId) -> Result<Option<FetchFault>, Fail> {
-    let realm = sample_realm(alloc)?;
-    Ok(fetch(alloc, &realm, user, Section::Streams).err())
+    of_sample(
+        alloc,
+        |realm| Ok(fetched(alloc, realm, user, Section::Streams).err()),
+    )
 }
 
 // Why a user can't fetch all sections.
 fn whole_fault(alloc: Global, user: UserId) -> Result<Option<FetchFault>, Fail> {
-    let realm = sample_realm(alloc)?;
-    Ok(fetched_all(alloc, &realm, user).err())
+    of_sample(alloc, |realm| Ok(fetched_all(alloc, realm, user).err()))
 }
 
 #[test]
