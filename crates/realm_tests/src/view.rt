@@ -153,20 +153,23 @@ fn whole_fault(alloc: Global, user: UserId) -> Result<Option<FetchFault>, Fail> 
     of_sample(alloc, |realm| Ok(fetched_all(alloc, realm, user).err()))
 }
 
+// The user is not one who can fetch.
+fn assert_unknown(rt: &impl Abort, fault: Option<FetchFault>) {
+    assert_eq!(rt; fault, Some(FetchFault::Unknown));
+}
+
 #[test]
 fn a_user_who_does_not_exist_fetches_nothing(rt: HostRuntime) -> Result<(), Fail> {
-    let unknown = Some(FetchFault::Unknown);
-    assert_eq!(rt; fault(rt.alloc(), UserId(0))?, unknown);
-    assert_eq!(rt; fault(rt.alloc(), NOBODY)?, unknown);
-    assert_eq!(rt; whole_fault(rt.alloc(), NOBODY)?, unknown);
+    assert_unknown(&rt, fault(rt.alloc(), UserId(0))?);
+    assert_unknown(&rt, fault(rt.alloc(), NOBODY)?);
+    assert_unknown(&rt, whole_fault(rt.alloc(), NOBODY)?);
     Ok(())
 }
 
 #[test]
 fn an_inactive_user_fetches_nothing(rt: HostRuntime) -> Result<(), Fail> {
-    let unknown = Some(FetchFault::Unknown);
-    assert_eq!(rt; fault(rt.alloc(), DAN)?, unknown);
-    assert_eq!(rt; whole_fault(rt.alloc(), DAN)?, unknown);
+    assert_unknown(&rt, fault(rt.alloc(), DAN)?);
+    assert_unknown(&rt, whole_fault(rt.alloc(), DAN)?);
     Ok(())
 }
 
