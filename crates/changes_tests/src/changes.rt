@@ -1,13 +1,16 @@
 //! What changes between two views, told in the order of a commit's events.
 
+ghost use Rattle.ev_types.specs.Sections.{IsWhole, Sections};
+
 mod lines;
 mod small_view;
 
-use ev_base::{NoMemory, Role};
+use crate::same::same;
+use ev_base::Role;
 use ev_laws::changes;
-use ev_types::Event;
+use ev_types::State;
 use lines::lines_of;
-use small_view::{ALL_FLAGS, NO_FLAGS, NO_ROWS, Rows, View};
+use small_view::{ALL_FLAGS, NO_FLAGS, NO_ROWS, Rows, state_of};
 use std::alloc::Global;
 use std::process::Abort;
 use std::test::Fail;
@@ -20,24 +23,29 @@ fn assert_told(
     after: Rows,
     lines: &str,
 ) -> Result<(), Fail> {
-    assert_eq!(rt; told(rt, alloc, before, after)?.as_str(), lines);
+    let told = told(alloc, before, after)?;
+    same(rt, told.as_str(), lines);
     Ok(())
 }
 
-fn told(rt: &impl Abort, alloc: Global, before: Rows, after: Rows) -> Result<String, Fail> {
-    let before = View::of(alloc, before)?;
-    let after = View::of(alloc, after)?;
-    let events = events_between(rt, alloc, before, after)?;
-    Ok(lines_of(alloc, &events)?)
+fn told(alloc: Global, before: Rows, after: Rows) -> Result<String, Fail> {
+    let before = state_of(alloc, before)?;
+    told_since(alloc, &before, after)
 }
 
-fn events_between(
-    rt: &impl Abort,
-    alloc: Global,
-    before: View,
-    after: View,
-) -> Result<Vec<Event>, NoMemory> {
-    changes(alloc, &before.into_state(rt), &after.into_state(rt))
+fn told_since(alloc: Global, before: &State, after: Rows) -> Result<String, Fail>
+    requires { (view : Sections) × IsWhole before.now view }
+{
+    let after = state_of(alloc, after)?;
+    told_between(alloc, before, &after)
+}
+
+fn told_between(alloc: Global, before: &State, after: &State) -> Result<String, Fail>
+    requires whole { (view : Sections) × IsWhole before.now view }
+    requires whole_after { (view : Sections) × IsWhole after.now view }
+{
+    let events = changes(alloc, before, after)?;
+    Ok(lines_of(alloc, &events)?)
 }
 
 // A row in each section.

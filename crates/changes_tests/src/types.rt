@@ -221,11 +221,24 @@ fn notice(alloc: Global) -> Result<Notice, Fail> {
     })
 }
 
+// Whether the event tells that this message and no other is gone.
+fn is_gone(event: &Event, message: u32) -> bool {
+    match event {
+        Event::MessageGone(messages) => messages.as_slice() == [MessageId(message)].as_slice(),
+        _ => false,
+    }
+}
+
 // Whether user 2 hears of message 5 and then of message 7.
 fn heard(alloc: Global) -> Result<bool, Fail> {
-    let events = notice(alloc)?.events_for(alloc, UserId(2))?;
+    let notice = notice(alloc)?;
+    heard_of(alloc, &notice)
+}
+
+fn heard_of(alloc: Global, notice: &Notice) -> Result<bool, Fail> {
+    let events = notice.events_for(alloc, UserId(2))?;
     Ok(match events.as_slice() {
-        [first, second] => *first == gone(alloc, 5)? && *second == gone(alloc, 7)?,
+        [first, second] => is_gone(first, 5) && is_gone(second, 7),
         _ => false,
     })
 }

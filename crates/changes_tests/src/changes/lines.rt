@@ -11,11 +11,16 @@ use std::fmt::Display;
 /// What the events tell, each in a line of its own.
 pub fn lines_of(alloc: Global, events: &[Event]) -> Result<String, AllocError> {
     let mut lines = String::new(alloc);
+    add_lines(&mut lines, events)?;
+    Ok(lines)
+}
+
+fn add_lines(lines: &mut String, events: &[Event]) -> Result<(), AllocError> {
     for event in events {
-        tell(&mut lines, event)?;
+        tell(lines, event)?;
         lines.push('\n')?;
     }
-    Ok(lines)
+    Ok(())
 }
 
 fn tell(line: &mut String, event: &Event) -> Result<(), AllocError> {

@@ -1,13 +1,13 @@
 //! A view made of a few plain rows.
 
+ghost use Rattle.std.specs.Prelude.{IfOk};
 ghost use Rattle.ev_types.specs.Sections.{IsWhole, Sections};
 
-use ev_base::{Keyed, MessageId, Place, Role, StreamId, Text, TextKind, UserId, rows_rise};
+use ev_base::{Keyed, MessageId, Place, Role, StreamId, Text, TextKind, UserId};
 use ev_types::{
     MessageFlags, ShownMessage, ShownRealm, ShownStream, ShownSubscription, ShownUser, State,
 };
 use std::alloc::Global;
-use std::process::Abort;
 use std::test::Fail;
 
 pub const NO_FLAGS: MessageFlags = MessageFlags {
@@ -22,7 +22,7 @@ pub const ALL_FLAGS: MessageFlags = MessageFlags {
     collapsed: true,
 };
 
-/// The rows of a small view in plain values, those of each section rising by key.
+/// The rows of a small view in plain values.
 #[derive(Clone, Copy)]
 pub struct Rows<'a> {
     // Both the name and the description.
@@ -53,171 +53,70 @@ pub const NO_ROWS: Rows<'static> = Rows {
 
 /// The rows of all sections of a view.
 #[derive(Drop)]
-pub struct View {
-    alloc: Global,
+struct View {
     realm: ShownRealm,
-    realm_users: Vec<(UserId, ShownUser)>,
-    streams: Vec<(StreamId, ShownStream)>,
-    subscriptions: Vec<(StreamId, ShownSubscription)>,
-    subscribers: Vec<((StreamId, UserId), ())>,
-    messages: Vec<(MessageId, ShownMessage)>,
-    reactions: Vec<((MessageId, UserId, Text), ())>,
-    starred_messages: Vec<(MessageId, ())>,
-    unread_messages: Vec<(MessageId, Place)>,
+    realm_users: Keyed<UserId, ShownUser>,
+    streams: Keyed<StreamId, ShownStream>,
+    subscriptions: Keyed<StreamId, ShownSubscription>,
+    subscribers: Keyed<(StreamId, UserId), ()>,
+    messages: Keyed<MessageId, ShownMessage>,
+    reactions: Keyed<(MessageId, UserId, Text), ()>,
+    starred_messages: Keyed<MessageId, ()>,
+    unread_messages: Keyed<MessageId, Place>,
 }
 
-fn text(alloc: Global, s: &str) -> Result<Text, Fail> {
-    Ok(Text::read(alloc, TextKind::RealmDescription, s)?)
-}
-
-fn place(alloc: Global, stream: u32, topic: &str) -> Result<Place, Fail> {
-    Ok(Place::Stream {
-        stream: StreamId(stream),
-        topic: text(alloc, topic)?,
-    })
+/// The view with these rows, as a state.
+pub fn state_of(alloc: Global, rows: Rows) -> Result<State, Fail>
+    ensures { IfOk result (λ state. (view : Sections) × IsWhole state view) }
+{
+    let mut view = View::new(alloc, realm(alloc, rows.realm)?);
+    view.put_rows(alloc, &rows)?;
+    Ok(view.into_state())
 }
 
 impl View {
-    fn new(alloc: Global, name: &str) -> Result<View, Fail> {
-        let realm = ShownRealm {
-            name: text(alloc, name)?,
-            description: text(alloc, name)?,
-        };
-        Ok(View {
-            alloc,
+    fn new(alloc: Global, realm: ShownRealm) -> View {
+        View {
             realm,
-            realm_users: Vec::new(alloc),
-            streams: Vec::new(alloc),
-            subscriptions: Vec::new(alloc),
-            subscribers: Vec::new(alloc),
-            messages: Vec::new(alloc),
-            reactions: Vec::new(alloc),
-            starred_messages: Vec::new(alloc),
-            unread_messages: Vec::new(alloc),
-        })
-    }
-
-    /// The view with these rows.
-    pub fn of(alloc: Global, rows: Rows) -> Result<View, Fail> {
-        let mut view = View::new(alloc, rows.realm)?;
-        view.add_rows(rows)?;
-        Ok(view)
-    }
-
-    fn add_rows(&mut self, rows: Rows) -> Result<(), Fail> {
-        self.add_users(rows.users)?;
-        self.add_streams(rows.streams)?;
-        self.add_subscriptions(rows.subscriptions)?;
-        self.add_subscribers(rows.subscribers)?;
-        self.add_messages(rows.messages)?;
-        self.add_reactions(rows.reactions)
-    }
-
-    fn add_users(&mut self, rows: &[(u32, &str, Role, bool)]) -> Result<(), Fail> {
-        for (user, name, role, is_active) in rows {
-            let row = ShownUser {
-                email: text(self.alloc, "a@x.org")?,
-                full_name: text(self.alloc, name)?,
-                role: *role,
-                is_active: *is_active,
-            };
-            self.realm_users.push((UserId(*user), row))?;
+            realm_users: Keyed::new(alloc),
+            streams: Keyed::new(alloc),
+            subscriptions: Keyed::new(alloc),
+            subscribers: Keyed::new(alloc),
+            messages: Keyed::new(alloc),
+            reactions: Keyed::new(alloc),
+            starred_messages: Keyed::new(alloc),
+            unread_messages: Keyed::new(alloc),
         }
-        Ok(())
     }
 
-    fn add_streams(&mut self, rows: &[(u32, &str, bool)]) -> Result<(), Fail> {
-        for (stream, name, invite_only) in rows {
-            let row = ShownStream {
-                name: text(self.alloc, name)?,
-                description: text(self.alloc, name)?,
-                invite_only: *invite_only,
-                history_public_to_subscribers: !*invite_only,
-            };
-            self.streams.push((StreamId(*stream), row))?;
-        }
-        Ok(())
+    fn put_rows(&mut self, alloc: Global, rows: &Rows) -> Result<(), Fail> {
+        self.put_people_and_streams(alloc, rows)?;
+        self.put_messages(alloc, rows)
     }
 
-    fn add_subscriptions(&mut self, rows: &[(u32, &str, bool)]) -> Result<(), Fail> {
-        for (stream, color, is_muted) in rows {
-            let row = ShownSubscription {
-                color: text(self.alloc, color)?,
-                is_muted: *is_muted,
-                pin_to_top: *is_muted,
-            };
-            self.subscriptions.push((StreamId(*stream), row))?;
-        }
-        Ok(())
+    fn put_people_and_streams(&mut self, alloc: Global, rows: &Rows) -> Result<(), Fail> {
+        put_each(&mut self.realm_users, alloc, rows.users, user)?;
+        put_each(&mut self.streams, alloc, rows.streams, stream)?;
+        put_each(
+            &mut self.subscriptions,
+            alloc,
+            rows.subscriptions,
+            subscription,
+        )?;
+        put_each(&mut self.subscribers, alloc, rows.subscribers, subscriber)
     }
 
-    fn add_subscribers(&mut self, rows: &[(u32, u32)]) -> Result<(), Fail> {
-        for (stream, user) in rows {
-            self.subscribers
-                .push(((StreamId(*stream), UserId(*user)), ()))?;
-        }
-        Ok(())
+    fn put_messages(&mut self, alloc: Global, rows: &Rows) -> Result<(), Fail> {
+        put_each(&mut self.messages, alloc, rows.messages, message)?;
+        put_each(&mut self.reactions, alloc, rows.reactions, reaction)?;
+        put_each(&mut self.starred_messages, alloc, rows.messages, starred)?;
+        put_each(&mut self.unread_messages, alloc, rows.messages, unread)
     }
 
-    fn add_messages(
-        &mut self,
-        rows: &[(u32, (u32, &str), &str, MessageFlags)],
-    ) -> Result<(), Fail> {
-        for (message, place, content, flags) in rows {
-            self.add_message(MessageId(*message), *place, content, *flags)?;
-            self.add_marks(MessageId(*message), *place, *flags)?;
-        }
-        Ok(())
-    }
-
-    fn add_message(
-        &mut self,
-        message: MessageId,
-        to: (u32, &str),
-        content: &str,
-        flags: MessageFlags,
-    ) -> Result<(), Fail> {
-        let row = ShownMessage {
-            sender: UserId(1),
-            place: place(self.alloc, to.0, to.1)?,
-            content: text(self.alloc, content)?,
-            timestamp: 7,
-            flags,
-        };
-        Ok(self.messages.push((message, row))?)
-    }
-
-    // Adds the message to those that are starred and unread, as its flags say.
-    fn add_marks(
-        &mut self,
-        message: MessageId,
-        to: (u32, &str),
-        flags: MessageFlags,
-    ) -> Result<(), Fail> {
-        if flags.starred {
-            self.starred_messages.push((message, ()))?;
-        }
-        if flags.read {
-            return Ok(());
-        }
-        let place = place(self.alloc, to.0, to.1)?;
-        Ok(self.unread_messages.push((message, place))?)
-    }
-
-    fn add_reactions(&mut self, rows: &[(u32, u32, &str)]) -> Result<(), Fail> {
-        for (message, user, emoji) in rows {
-            let key = (MessageId(*message), UserId(*user), text(self.alloc, emoji)?);
-            self.reactions.push((key, ()))?;
-        }
-        Ok(())
-    }
-
-    /// The view as a state. The test fails where rows don't rise.
-    pub fn into_state(self, rt: &impl Abort) -> State
+    fn into_state(self) -> State
         ensures { (view : Sections) × IsWhole result view }
     {
         let View {
-            alloc: _,
             realm,
             realm_users,
             streams,
@@ -230,19 +129,130 @@ impl View {
         } = self;
         State {
             realm: Some(realm),
-            realm_users: Some(keyed(rt, realm_users)),
-            streams: Some(keyed(rt, streams)),
-            subscriptions: Some(keyed(rt, subscriptions)),
-            subscribers: Some(keyed(rt, subscribers)),
-            messages: Some(keyed(rt, messages)),
-            reactions: Some(keyed(rt, reactions)),
-            starred_messages: Some(keyed(rt, starred_messages)),
-            unread_messages: Some(keyed(rt, unread_messages)),
+            realm_users: Some(realm_users),
+            streams: Some(streams),
+            subscriptions: Some(subscriptions),
+            subscribers: Some(subscribers),
+            messages: Some(messages),
+            reactions: Some(reactions),
+            starred_messages: Some(starred_messages),
+            unread_messages: Some(unread_messages),
         }
     }
 }
 
-fn keyed<K: Ord, V>(rt: &impl Abort, rows: Vec<(K, V)>) -> Keyed<K, V> {
-    assert!(rt; rows_rise(&rows));
-    Keyed::from_vec(rows)
+// Puts the row that `make` makes of each plain one, if any.
+fn put_each<P, K: Ord + Drop, V: Drop, F: Fn(Global, &P) -> Result<Option<(K, V)>, Fail>>(
+    section: &mut Keyed<K, V>,
+    alloc: Global,
+    plain: &[P],
+    make: F,
+) -> Result<(), Fail>
+    requires { F.IsAlwaysCallable make }
+{
+    for row in plain {
+        section.reserve(1)?;
+        if let Some((key, value)) = make(alloc, row)? {
+            section.put(key, value);
+        }
+    }
+    Ok(())
+}
+
+fn text(alloc: Global, s: &str) -> Result<Text, Fail> {
+    Ok(Text::read(alloc, TextKind::RealmDescription, s)?)
+}
+
+fn place(alloc: Global, to: &(u32, &str)) -> Result<Place, Fail> {
+    Ok(Place::Stream {
+        stream: StreamId(to.0),
+        topic: text(alloc, to.1)?,
+    })
+}
+
+fn realm(alloc: Global, name: &str) -> Result<ShownRealm, Fail> {
+    Ok(ShownRealm {
+        name: text(alloc, name)?,
+        description: text(alloc, name)?,
+    })
+}
+
+fn user(alloc: Global, row: &(u32, &str, Role, bool)) -> Result<Option<(UserId, ShownUser)>, Fail> {
+    let shown = ShownUser {
+        email: text(alloc, "a@x.org")?,
+        full_name: text(alloc, row.1)?,
+        role: row.2,
+        is_active: row.3,
+    };
+    Ok(Some((UserId(row.0), shown)))
+}
+
+fn stream(alloc: Global, row: &(u32, &str, bool)) -> Result<Option<(StreamId, ShownStream)>, Fail> {
+    let shown = ShownStream {
+        name: text(alloc, row.1)?,
+        description: text(alloc, row.1)?,
+        invite_only: row.2,
+        history_public_to_subscribers: !row.2,
+    };
+    Ok(Some((StreamId(row.0), shown)))
+}
+
+fn subscription(
+    alloc: Global,
+    row: &(u32, &str, bool),
+) -> Result<Option<(StreamId, ShownSubscription)>, Fail> {
+    let shown = ShownSubscription {
+        color: text(alloc, row.1)?,
+        is_muted: row.2,
+        pin_to_top: row.2,
+    };
+    Ok(Some((StreamId(row.0), shown)))
+}
+
+fn subscriber(_alloc: Global, row: &(u32, u32)) -> Result<Option<((StreamId, UserId), ())>, Fail> {
+    Ok(Some(((StreamId(row.0), UserId(row.1)), ())))
+}
+
+fn message(
+    alloc: Global,
+    row: &(u32, (u32, &str), &str, MessageFlags),
+) -> Result<Option<(MessageId, ShownMessage)>, Fail> {
+    let shown = ShownMessage {
+        sender: UserId(1),
+        place: place(alloc, &row.1)?,
+        content: text(alloc, row.2)?,
+        timestamp: 7,
+        flags: row.3,
+    };
+    Ok(Some((MessageId(row.0), shown)))
+}
+
+fn reaction(
+    alloc: Global,
+    row: &(u32, u32, &str),
+) -> Result<Option<((MessageId, UserId, Text), ())>, Fail> {
+    let emoji = text(alloc, row.2)?;
+    Ok(Some(((MessageId(row.0), UserId(row.1), emoji), ())))
+}
+
+// The row of a starred message among those that are starred.
+fn starred(
+    _alloc: Global,
+    row: &(u32, (u32, &str), &str, MessageFlags),
+) -> Result<Option<(MessageId, ())>, Fail> {
+    if !row.3.starred {
+        return Ok(None);
+    }
+    Ok(Some((MessageId(row.0), ())))
+}
+
+// The row of an unread message among those that are unread.
+fn unread(
+    alloc: Global,
+    row: &(u32, (u32, &str), &str, MessageFlags),
+) -> Result<Option<(MessageId, Place)>, Fail> {
+    if row.3.read {
+        return Ok(None);
+    }
+    Ok(Some((MessageId(row.0), place(alloc, &row.1)?)))
 }

@@ -1,19 +1,19 @@
 use Rattle.std.proofs.Common.{refl}
 use Rattle.changes_tests.proofs.changes.small_view.View.into_state.Goals as goal
 
--- the sections are the rows that were added
+-- the sections are the rows that were put
 pub returns : goal.returns
-returns g c = (
+returns g = (
   record {
-    realm = c.args.self.realm;
-    realm_users = c.keyed.result.rows;
-    streams = c.keyed-2.result.rows;
-    subscriptions = c.keyed-3.result.rows;
-    subscribers = c.keyed-4.result.rows;
-    messages = c.keyed-5.result.rows;
-    reactions = c.keyed-6.result.rows;
-    starred_messages = c.keyed-7.result.rows;
-    unread_messages = c.keyed-8.result.rows;
+    realm = g.args.self.realm;
+    realm_users = g.args.self.realm_users.rows;
+    streams = g.args.self.streams.rows;
+    subscriptions = g.args.self.subscriptions.rows;
+    subscribers = g.args.self.subscribers.rows;
+    messages = g.args.self.messages.rows;
+    reactions = g.args.self.reactions.rows;
+    starred_messages = g.args.self.starred_messages.rows;
+    unread_messages = g.args.self.unread_messages.rows;
   },
   refl,
 )
