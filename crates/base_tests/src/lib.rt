@@ -1,4 +1,4 @@
-//! Tests of rows that rise by key, of ids and texts, and of small lists.
+//! Tests of rows sorted by key, of ids and texts, and of small lists.
 #![tactic(auto)]
 
 #[cfg(test)]

@@ -1,4 +1,4 @@
-//! Tables and lists of rows that rise by key.
+//! Tables and lists of rows sorted by key.
 
 use crate::same::same;
 use ev_rows::{Keyed, RowList, rows_rise};

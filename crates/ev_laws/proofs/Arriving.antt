@@ -2,7 +2,7 @@
 use Rattle.std.proofs.Common.{◌≡◌, ◌<◌, ◌≤◌, List, [], ◌∷◌, ◌++◌, length, refl, arith}
 use Rattle.ev_types.specs.declared.event.Event.TheVariants.{MessageNew, MessagesRestored}
 use Rattle.ev_types.specs.declared.event.FullMessage.{FullMessage}
-use Rattle.ev_laws.specs.Changes.{arrivals}
+use Rattle.ev_types.specs.Changes.{arrivals}
 
 -- several messages
 pub several : (messages : List FullMessage) → 1 < length messages → arrivals messages ≡ MessagesRestored messages ∷ []

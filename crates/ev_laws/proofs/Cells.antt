@@ -4,7 +4,7 @@ use Rattle.std.specs.Option.{option_map_or}
 use Rattle.std.specs.BTreeMap.{is_at}
 use Rattle.std.proofs.lemmas.List.Sums.{fold-append}
 use Rattle.ev_rows.specs.KeyOrder.{KeyOrder}
-use Rattle.ev_rows.specs.Rows.{RowsRise, row_at, keys_of, one_of, fresh, both_of, gained, kept, lost, keyed_events}
+use Rattle.ev_rows.specs.Rows.{SortedByKey, row_at, keys_of, one_of, fresh, both_of, gained, kept, lost, keyed_events}
 use Rattle.ev_rows.proofs.RiseLemmas.{rise_tail}
 use Rattle.ev_rows.proofs.RowFolds.{fold-flat_map_at}
 use Rattle.ev_rows.proofs.RowLemmas.{at_same, at_itself, row_at_below, same_rows}
@@ -13,7 +13,7 @@ use Rattle.ev_types.specs.declared.event.Event.{Event}
 use Rattle.ev_types.specs.Writes.{Write, put, patch, drop_row, Rules, cell_after_write, cell_after}
 use Rattle.ev_types.specs.Applying.{rows_applied}
 use Rattle.ev_types.proofs.WriteLemmas.{rise-after_writes, row_at-after_writes}
-use Rattle.ev_laws.specs.Changes.{unless}
+use Rattle.ev_types.specs.Changes.{unless}
 
 -- the first value, or else the second
 abbrev pub over : {V : Type 0} → Option V → Option V → Option V
@@ -36,7 +36,7 @@ module _ {K V F P : Type 0} (rules : Rules K V F P) (writes : Event → List (Wr
 
 module _ {K V F P : Type 0} (rules : Rules K V F P) (order : KeyOrder rules.cmp) where
   -- events lead from one list to another where they do so at each key
-  pub rows_lead : (writes : Event → List (Write K V F P)) (events : List Event) (before after : List (K × V)) → RowsRise rules.cmp before → RowsRise rules.cmp after
+  pub rows_lead : (writes : Event → List (Write K V F P)) (events : List Event) (before after : List (K × V)) → SortedByKey rules.cmp before → SortedByKey rules.cmp after
       → ((q : K) → fold (cell_step rules writes q) (row_at rules.cmp before q) events ≡ row_at rules.cmp after q) → rows_applied rules writes events before ≡ after
   rows_lead writes events before after before_rises after_rises leads =
       same_rows order (rows_applied rules writes events before) after (rise-after_writes rules order before (flat_map writes events) before_rises) after_rises
@@ -44,7 +44,7 @@ module _ {K V F P : Type 0} (rules : Rules K V F P) (order : KeyOrder rules.cmp)
 
   module _ (q : K) where
     -- rows that are put
-    pub cell-puts : (rows : List (K × V)) → RowsRise rules.cmp rows → (cell : Option V) → cell_after rules q cell (map (λ row. put row.0 row.1) rows) ≡ over (row_at rules.cmp rows q) cell
+    pub cell-puts : (rows : List (K × V)) → SortedByKey rules.cmp rows → (cell : Option V) → cell_after rules q cell (map (λ row. put row.0 row.1) rows) ≡ over (row_at rules.cmp rows q) cell
     cell-puts [] rise cell = refl
     cell-puts (row ∷ rows) rise cell = go (is_at (rules.cmp q) row.0) refl (λ c. cell-puts rows (rise_tail rules.cmp row rows rise) c)
       where
@@ -90,7 +90,7 @@ module _ {K V : Type 0} {cmp : K → K → Ordering} (order : KeyOrder cmp) (cre
   new = row_at cmp after q
 
   -- events that create what was gained, change what was kept and delete what was lost lead from the row that stood to the row that stands
-  pub keyed_leads : RowsRise cmp before → RowsRise cmp after
+  pub keyed_leads : SortedByKey cmp before → SortedByKey cmp after
       → ((cell : Option V) → fold step cell (create (gained cmp before after)) ≡ over (row_at cmp (gained cmp before after) q) cell)
       → ((row : K × (V × V)) (cell : Option V) → is_at (cmp q) row.0 ≡ false → fold step cell (change row) ≡ cell)
       → ((old new : V) → row_at cmp before q ≡ Some old → row_at cmp after q ≡ Some new → fold step (Some old) (change (q, (old, new))) ≡ Some new)

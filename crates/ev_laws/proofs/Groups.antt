@@ -21,7 +21,7 @@ use Rattle.ev_types.specs.declared.event.FlagChange.{FlagChange}
 use Rattle.ev_types.specs.declared.event.Event.{Event}
 use Rattle.ev_types.specs.declared.event.Event.TheVariants.{RealmUpdate, UserAdd, UserChange, StreamCreate, StreamChange, StreamDelete, SubAdd, SubChange, SubRemove, PeerAdd, PeerRemove, MessageNew, MessagesRestored, MessageMoved, MessageEdited, Flags, MessageGone, ReactionAdd, ReactionRemove}
 use Rattle.ev_types.specs.Sections.{Sections}
-use Rattle.ev_laws.specs.Changes.{realm_changes, user_changes, user_events, stream_changes, stream_events, subscription_changes, subscription_events, peers_added, peers_removed, peer_events, arrivals, full_message, KeptMessage, moves_of, move_events, edits, turned, details_of, flag_change, flag_event, flag_events, of_kept, reaction_events, message_events, changes_between}
+use Rattle.ev_types.specs.Changes.{realm_changes, user_changes, user_events, stream_changes, stream_events, subscription_changes, subscription_events, peers_added, peers_removed, peer_events, arrivals, full_message, KeptMessage, moves_of, move_events, edits, turned, details_of, flag_change, flag_event, flag_events, of_kept, reaction_events, message_events, changes_between}
 use Rattle.ev_laws.proofs.Quiet.{Quiet, quiet_nil, quiet_append, quiet_event, quiet_unless, quiet_one_of, quiet_map, quiet_flat_map, quiet_keyed, skip_front, skip_back}
 
 -- the changes of a row that was kept are quiet where its fields are

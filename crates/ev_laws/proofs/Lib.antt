@@ -10,8 +10,8 @@ mod Moves
 mod MessagesLead
 mod MarksLead
 mod ReactionsLead
-mod ViewLeads
+pub mod ViewLeads
 mod Samples
-mod Loops
+pub mod Loops
 mod Moving
 mod Ranges

@@ -3,7 +3,7 @@ use Rattle.std.proofs.Common.{◌≡◌, Bool, true, false, not, cond, List, [],
 use Rattle.std.specs.Option.{option_map_or}
 use Rattle.std.specs.BTreeMap.{is_at}
 use Rattle.std.proofs.lemmas.List.Folds.{flat_map-map}
-use Rattle.ev_rows.specs.Rows.{RowsRise, row_at, gained, kept, lost, fresh, both_of, keys_of, one_of, only_if}
+use Rattle.ev_rows.specs.Rows.{SortedByKey, row_at, gained, kept, lost, fresh, both_of, keys_of, one_of, only_if}
 use Rattle.ev_rows.proofs.RowFolds.{fold-flat_map_at, fold-each}
 use Rattle.ev_rows.proofs.RiseLemmas.{rise-filter}
 use Rattle.ev_rows.proofs.RowLemmas.{row_at-sift, at_itself}
@@ -21,8 +21,8 @@ use Rattle.ev_types.specs.Sections.{Sections, ReactionKey}
 use Rattle.ev_types.specs.Writes.{Write, put, drop_row, Rules, cell_after, cell_after_write}
 use Rattle.ev_types.specs.EventWrites.{starred_rules, starred_writes, starred_of, unread_rules, unread_writes, unread_of}
 use Rattle.ev_types.specs.Applying.{rows_applied}
-use Rattle.ev_laws.specs.Changes.{full_message, arrivals, KeptMessage, StreamPlace, moved_to, move_events, edits, turned, flag_change, flag_event, flag_events, reaction_events, changes_between}
-use Rattle.ev_laws.specs.Comparable.{Comparable}
+use Rattle.ev_types.specs.Changes.{full_message, arrivals, KeptMessage, StreamPlace, moved_to, move_events, edits, turned, flag_change, flag_event, flag_events, reaction_events, changes_between}
+use Rattle.ev_types.specs.Comparable.{Comparable}
 use Rattle.ev_laws.proofs.Groups.{quiet_people, quiet_moves, quiet_edits, quiet_flag, quiet_reactions, messages_alone}
 use Rattle.ev_laws.proofs.Cells.{without, cell_step, rows_lead, cell-drops, fold-one_of}
 use Rattle.ev_laws.proofs.Moves.{by_ids, move_events_at, place_told}
@@ -32,7 +32,7 @@ use Rattle.ev_laws.proofs.MessagesLead.{arrivals_act, fold-message_events, fold-
 module _ {V F P : Type 0} (rules : Rules MessageId V F P) (writes : Event → List (Write MessageId V F P)) (q : MessageId) where
   pub told_turned : (f : Flag) (add : Bool) (act : ShownMessage × ShownMessage → Option V → Option V) (make : KeptMessage → Write MessageId V F P)
       → ((row : KeptMessage) (c : Option V) → cell_after_write rules q c (make row) ≡ cond (is_at (message_cmp q) row.0) (act row.1 c) c)
-      → ((those : List KeptMessage) → writes (flag_change f add those) ≡ map make those) → (rows : List KeptMessage) → RowsRise message_cmp rows → (c : Option V)
+      → ((those : List KeptMessage) → writes (flag_change f add those) ≡ map make those) → (rows : List KeptMessage) → SortedByKey message_cmp rows → (c : Option V)
       → fold (cell_step rules writes q) c (flag_event rows f add) ≡ where_turned f add q act (row_at message_cmp rows q) c
   told_turned f add act make acts are rows rise c =
       fold-one_of (cell_step rules writes q) (flag_change f add) (λ those. cell_after rules q c (map make those)) c refl (λ those. ap (cell_after rules q c) (are those)) (filter (turned f add) rows)
@@ -75,7 +75,7 @@ module _ (q : MessageId) where
     abbrev new_row : Option ShownMessage
     new_row = row_at message_cmp after.messages q
 
-    rises_after : RowsRise message_cmp after.messages
+    rises_after : SortedByKey message_cmp after.messages
     rises_after = comparable.after_coheres.rises.messages
 
     kept_at : row_at message_cmp rows q ≡ both_of old_row new_row
@@ -202,10 +202,10 @@ module _ (q : MessageId) where
     abbrev is_now : Option ShownMessage
     is_now = row_at message_cmp after.messages q
 
-    rise_after : RowsRise message_cmp after.messages
+    rise_after : SortedByKey message_cmp after.messages
     rise_after = comparable.after_coheres.rises.messages
 
-    those_rise : RowsRise message_cmp those
+    those_rise : SortedByKey message_cmp those
     those_rise = rise-kept message_cmp before.messages after.messages rise_after
 
     those_at : row_at message_cmp those q ≡ both_of was is_now

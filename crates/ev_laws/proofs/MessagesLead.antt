@@ -4,7 +4,7 @@ use Rattle.std.proofs.Math.Bool.{beq}
 use Rattle.std.specs.Option.{option_map_or}
 use Rattle.std.specs.BTreeMap.{is_at}
 use Rattle.std.proofs.lemmas.List.Sums.{fold-append}
-use Rattle.ev_rows.specs.Rows.{RowsRise, row_at, gained, kept, lost, fresh, both_of, keys_of, one_of, only_if}
+use Rattle.ev_rows.specs.Rows.{SortedByKey, row_at, gained, kept, lost, fresh, both_of, keys_of, one_of, only_if}
 use Rattle.ev_rows.proofs.RowFolds.{fold-flat_map_at, fold-each}
 use Rattle.ev_rows.proofs.RiseLemmas.{rise-filter}
 use Rattle.ev_rows.proofs.RowLemmas.{row_at-filter}
@@ -23,8 +23,8 @@ use Rattle.ev_types.specs.Sections.{Sections, ReactionKey}
 use Rattle.ev_types.specs.Writes.{put, patch, drop_row, cell_after, cell_after_write}
 use Rattle.ev_types.specs.EventWrites.{message_rules, message_writes, message_with, to_place, to_content, to_flag}
 use Rattle.ev_types.specs.Applying.{rows_applied}
-use Rattle.ev_laws.specs.Changes.{full_message, arrivals, KeptMessage, StreamPlace, moved_to, move_events, edits, flag_in, turned, flag_change, flag_event, flag_events, reaction_events, message_events, changes_between}
-use Rattle.ev_laws.specs.Comparable.{Comparable, SameMessage}
+use Rattle.ev_types.specs.Changes.{full_message, arrivals, KeptMessage, StreamPlace, moved_to, move_events, edits, flag_in, turned, flag_change, flag_event, flag_events, reaction_events, message_events, changes_between}
+use Rattle.ev_types.specs.Comparable.{Comparable, SameMessage}
 use Rattle.ev_laws.proofs.Quiet.{quiet_unless}
 use Rattle.ev_laws.proofs.Groups.{quiet_people, quiet_reactions, messages_alone}
 use Rattle.ev_laws.proofs.Cells.{over, without, cell_step, rows_lead, cell-puts, cell-drops, cell-unless, fold-one_of}
@@ -74,7 +74,7 @@ abbrev pub where_turned : {C : Type 0} → Flag → Bool → MessageId → (Show
 where_turned f add q act None c = c
 where_turned f add q act (Some both) c = cond (turned f add (q, both)) (act both c) c
 
-pub turned_at : {C : Type 0} (f : Flag) (add : Bool) (q : MessageId) (act : ShownMessage × ShownMessage → C → C) (rows : List KeptMessage) → RowsRise message_cmp rows → (c : C)
+pub turned_at : {C : Type 0} (f : Flag) (add : Bool) (q : MessageId) (act : ShownMessage × ShownMessage → C → C) (rows : List KeptMessage) → SortedByKey message_cmp rows → (c : C)
     → option_map_or (λ both. act both c) (row_at message_cmp (filter (turned f add) rows) q) c ≡ where_turned f add q act (row_at message_cmp rows q) c
 turned_at {C} f add q act rows rise c = ap (λ o. option_map_or (λ both. act both c) o c) (row_at-filter message_order (turned f add) rows q rise) ∙ go (row_at message_cmp rows q)
   where
@@ -113,7 +113,7 @@ module _ (q : MessageId) where
   moved_ids [] to c = refl
   moved_ids (id ∷ ids) to c = moved_ids ids to (cond (is_at (message_cmp q) id) (to_stream to c) c)
 
-  told_flag : (f : Flag) (add : Bool) (rows : List KeptMessage) → RowsRise message_cmp rows → (c : Option ShownMessage)
+  told_flag : (f : Flag) (add : Bool) (rows : List KeptMessage) → SortedByKey message_cmp rows → (c : Option ShownMessage)
       → fold step c (flag_event rows f add) ≡ where_turned f add q (λ both cell. option_map (message_with (to_flag f add)) cell) (row_at message_cmp rows q) c
   told_flag f add rows rise c =
       fold-one_of step (flag_change f add) (λ those. cell_after message_rules q c (map (λ id. patch id (to_flag f add)) (keys_of those))) c refl (λ those. refl) (filter (turned f add) rows)
@@ -157,8 +157,8 @@ module _ (q : MessageId) where
     abbrev edited : ShownMessage
     edited = record old { place = new.place; content = new.content }
 
-    all_flagged : flagged flag.Collapsed (flagged flag.Starred (flagged flag.Read (Some edited))) ≡ Some (record edited { flags = new.flags })
-    all_flagged =
+    max_flagged : flagged flag.Collapsed (flagged flag.Starred (flagged flag.Read (Some edited))) ≡ Some (record edited { flags = new.flags })
+    max_flagged =
         ap (λ c. flagged flag.Collapsed (flagged flag.Starred c)) (flag_set flag.Read edited refl)
         ∙ ap (flagged flag.Collapsed) (flag_set flag.Starred (record edited { flags = record old.flags { read = new.flags.read } }) refl)
         ∙ flag_set flag.Collapsed (record edited { flags = record old.flags { read = new.flags.read; starred = new.flags.starred } }) refl
@@ -176,10 +176,10 @@ module _ (q : MessageId) where
     abbrev new_row : Option ShownMessage
     new_row = row_at message_cmp after.messages q
 
-    rises_after : RowsRise message_cmp after.messages
+    rises_after : SortedByKey message_cmp after.messages
     rises_after = comparable.after_coheres.rises.messages
 
-    rows_rise : RowsRise message_cmp rows
+    rows_rise : SortedByKey message_cmp rows
     rows_rise = rise-kept message_cmp before.messages after.messages rises_after
 
     kept_at : row_at message_cmp rows q ≡ both_of old_row new_row
@@ -245,7 +245,7 @@ module _ (q : MessageId) where
         let same = comparable.messages q old new o_is n_is in
         ap (λ c. all_marked (Some (old, new)) (written (Some (old, new)) c)) (moved_told old new same)
         ∙ ap (all_marked (Some (old, new))) (edited_told old new same)
-        ∙ all_flagged old new same
+        ∙ max_flagged old new same
         ∙ ap Some (is_new old new same)
 
     message_leads : fold step old_row (changes_between before after) ≡ new_row

@@ -6,7 +6,7 @@ use Rattle.std.specs.BTreeMap.{insert_entry, is_at}
 use Rattle.std.proofs.lemmas.Bool.{eqb-true}
 use Rattle.std.proofs.lemmas.List.Sums.{fold-append}
 use Rattle.ev_rows.specs.KeyOrder.{KeyOrder}
-use Rattle.ev_rows.specs.Rows.{RowsRise, row_at}
+use Rattle.ev_rows.specs.Rows.{SortedByKey, row_at}
 use Rattle.ev_rows.proofs.PlaceLemmas.{lookup-below}
 use Rattle.ev_rows.proofs.RiseLemmas.{IsBelow-further, rise-nil, rise_head, rise_tail, rise-insert_entry}
 use Rattle.ev_rows.proofs.RowLemmas.{at_same, row_at_below}
@@ -17,8 +17,8 @@ use Rattle.ev_base.specs.declared.place.Place.TheVariants as place
 use Rattle.ev_types.specs.declared.event.Event.{Event}
 use Rattle.ev_types.specs.declared.event.Event.TheVariants.{MessageMoved}
 use Rattle.ev_types.specs.declared.rows.ShownMessage.{ShownMessage}
-use Rattle.ev_laws.specs.Changes.{KeptMessage, StreamPlace, place_cmp, same_place, in_stream, moved_to, Moves, with_move, moves_of, move_events}
-use Rattle.ev_laws.specs.Comparable.{KeepsDirect}
+use Rattle.ev_types.specs.Changes.{KeptMessage, StreamPlace, place_cmp, same_place, in_stream, moved_to, Moves, with_move, moves_of, move_events}
+use Rattle.ev_types.specs.Comparable.{KeepsDirect}
 use Rattle.ev_laws.proofs.Tests.{texts_same}
 
 pub place_order : KeyOrder place_cmp
@@ -29,7 +29,7 @@ abbrev grown : Moves → StreamPlace → MessageId → Moves
 grown [] to id = (to, id ∷ []) ∷ []
 grown (group ∷ moves) to id = match_ordering (place_cmp to group.0) ((to, id ∷ []) ∷ group ∷ moves) ((group.0, group.1 ++ id ∷ []) ∷ moves) (group ∷ grown moves to id)
 
-with_move-grown : (moves : Moves) (to : StreamPlace) (id : MessageId) → RowsRise place_cmp moves → with_move moves to id ≡ grown moves to id
+with_move-grown : (moves : Moves) (to : StreamPlace) (id : MessageId) → SortedByKey place_cmp moves → with_move moves to id ≡ grown moves to id
 with_move-grown [] to id rise = refl
 with_move-grown (group ∷ moves) to id rise = go (place_cmp to group.0) refl (with_move-grown moves to id (rise_tail place_cmp group moves rise))
   where
@@ -107,21 +107,21 @@ module _ {C : Type 0} (q : MessageId) (act : StreamPlace → C → C) where
   abbrev moving : Moves → KeptMessage → Moves
   moving moves row = option_map_or (λ to. with_move moves to row.0) (moved_to row) moves
 
-  rise-moving : (moves : Moves) (row : KeptMessage) → RowsRise place_cmp moves → RowsRise place_cmp (moving moves row)
+  rise-moving : (moves : Moves) (row : KeptMessage) → SortedByKey place_cmp moves → SortedByKey place_cmp (moving moves row)
   rise-moving moves row rise = go (moved_to row)
     where
-      go : (o : Option StreamPlace) → RowsRise place_cmp (option_map_or (λ to. with_move moves to row.0) o moves)
+      go : (o : Option StreamPlace) → SortedByKey place_cmp (option_map_or (λ to. with_move moves to row.0) o moves)
       go None = rise
       go (Some to) = rise-insert_entry place_order.total to (unwrap_or (row_at place_cmp moves to) [] ++ row.0 ∷ []) moves rise
 
-  other_moving : (moves : Moves) (row : KeptMessage) → RowsRise place_cmp moves → is_at (message_cmp q) row.0 ≡ false → (c : C) → by_moves (moving moves row) c ≡ by_moves moves c
+  other_moving : (moves : Moves) (row : KeptMessage) → SortedByKey place_cmp moves → is_at (message_cmp q) row.0 ≡ false → (c : C) → by_moves (moving moves row) c ≡ by_moves moves c
   other_moving moves row rise off c = go (moved_to row)
     where
       go : (o : Option StreamPlace) → by_moves (option_map_or (λ to. with_move moves to row.0) o moves) c ≡ by_moves moves c
       go None = refl
       go (Some to) = ap (λ (m : Moves). by_moves m c) (with_move-grown moves to row.0 rise) ∙ other_grown to row.0 off moves c
 
-  lacks_moving : (moves : Moves) (row : KeptMessage) → RowsRise place_cmp moves → is_at (message_cmp q) row.0 ≡ false → Lacks moves → Lacks (moving moves row)
+  lacks_moving : (moves : Moves) (row : KeptMessage) → SortedByKey place_cmp moves → is_at (message_cmp q) row.0 ≡ false → Lacks moves → Lacks (moving moves row)
   lacks_moving moves row rise off lacks = go (moved_to row)
     where
       go : (o : Option StreamPlace) → Lacks (option_map_or (λ to. with_move moves to row.0) o moves)
@@ -129,7 +129,7 @@ module _ {C : Type 0} (q : MessageId) (act : StreamPlace → C → C) where
       go (Some to) = rw (with_move-grown moves to row.0 rise) (lacks_grown to row.0 off moves lacks)
 
   -- messages that are all others leave the cell
-  others_moving : (rows : List KeptMessage) (moves : Moves) → RowsRise place_cmp moves → row_at message_cmp rows q ≡ None → (c : C) → by_moves (fold moving moves rows) c ≡ by_moves moves c
+  others_moving : (rows : List KeptMessage) (moves : Moves) → SortedByKey place_cmp moves → row_at message_cmp rows q ≡ None → (c : C) → by_moves (fold moving moves rows) c ≡ by_moves moves c
   others_moving [] moves rise none c = refl
   others_moving (row ∷ rows) moves rise none c = go (is_at (message_cmp q) row.0) refl none (λ rest. others_moving rows (moving moves row) (rise-moving moves row rise) rest c)
     where
@@ -141,7 +141,7 @@ module _ {C : Type 0} (q : MessageId) (act : StreamPlace → C → C) where
   abbrev moved_cell : C → KeptMessage → C
   moved_cell c row = option_map_or (λ to. act to c) (moved_to row) c
 
-  moving_at : (rows : List KeptMessage) (moves : Moves) → RowsRise message_cmp rows → RowsRise place_cmp moves → Lacks moves → (c : C)
+  moving_at : (rows : List KeptMessage) (moves : Moves) → SortedByKey message_cmp rows → SortedByKey place_cmp moves → Lacks moves → (c : C)
       → by_moves (fold moving moves rows) c ≡ option_map_or (λ both. moved_cell c (q, both)) (row_at message_cmp rows q) c
   moving_at [] moves rise moves_rise lacks c = lacking moves lacks c
   moving_at (row ∷ rows) moves rise moves_rise lacks c =
@@ -160,11 +160,11 @@ module _ {C : Type 0} (q : MessageId) (act : StreamPlace → C → C) where
       go false off further = further (lacks_moving moves row moves_rise off lacks)
 
   -- the moves of the messages that were kept move the message where it moved
-  pub moves_at : (rows : List KeptMessage) → RowsRise message_cmp rows → (c : C) → by_moves (moves_of rows) c ≡ option_map_or (λ both. option_map_or (λ to. act to c) (moved_to (q, both)) c) (row_at message_cmp rows q) c
+  pub moves_at : (rows : List KeptMessage) → SortedByKey message_cmp rows → (c : C) → by_moves (moves_of rows) c ≡ option_map_or (λ both. option_map_or (λ to. act to c) (moved_to (q, both)) c) (row_at message_cmp rows q) c
   moves_at rows rise c = moving_at rows [] rise (rise-nil place_cmp) tt c
 
   -- and the events that tell of them do what they do
-  pub move_events_at : (step : C → Event → C) → ((ids : List MessageId) (to : StreamPlace) (c : C) → step c (MessageMoved ids to.0 to.1) ≡ by_ids to c ids) → (rows : List KeptMessage) → RowsRise message_cmp rows → (c : C)
+  pub move_events_at : (step : C → Event → C) → ((ids : List MessageId) (to : StreamPlace) (c : C) → step c (MessageMoved ids to.0 to.1) ≡ by_ids to c ids) → (rows : List KeptMessage) → SortedByKey message_cmp rows → (c : C)
       → fold step c (move_events rows) ≡ option_map_or (λ both. option_map_or (λ to. act to c) (moved_to (q, both)) c) (row_at message_cmp rows q) c
   move_events_at step acts rows rise c = told (moves_of rows) c ∙ moves_at rows rise c
     where

@@ -7,7 +7,7 @@ use Rattle.ev_rows.specs.KeyOrder.{KeyOrder}
 use Rattle.ev_rows.specs.Rows.{row_at}
 use Rattle.ev_rows.proofs.RowLemmas.{at_itself, row_at-insert_entry}
 use Rattle.ev_base.specs.Orders.{pair_order, stream_order, text_order}
-use Rattle.ev_laws.specs.Changes.{StreamPlace, place_cmp}
+use Rattle.ev_types.specs.Changes.{StreamPlace, place_cmp}
 
 place_order : KeyOrder place_cmp
 place_order = pair_order stream_order text_order

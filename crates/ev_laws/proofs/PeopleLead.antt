@@ -25,8 +25,8 @@ use Rattle.ev_types.specs.Sections.{Sections}
 use Rattle.ev_types.specs.Writes.{put, drop_row, cell_after}
 use Rattle.ev_types.specs.EventWrites.{realm_after, user_rules, user_writes, stream_rules, stream_writes, subscription_rules, subscription_writes}
 use Rattle.ev_types.specs.Applying.{realm_applied, rows_applied}
-use Rattle.ev_laws.specs.Changes.{unless, realm_changes, user_changes, stream_changes, subscription_changes, changes_between}
-use Rattle.ev_laws.specs.Comparable.{Comparable}
+use Rattle.ev_types.specs.Changes.{unless, realm_changes, user_changes, stream_changes, subscription_changes, changes_between}
+use Rattle.ev_types.specs.Comparable.{Comparable}
 use Rattle.ev_laws.proofs.Tests.{texts_same, bools_same, roles_same}
 use Rattle.ev_laws.proofs.Groups.{quiet_user_changes, quiet_stream_changes, quiet_subscription_changes, quiet_realm, quiet_users, quiet_streams, quiet_subscriptions, quiet_peers, quiet_messages, realm_alone, users_alone, streams_alone, subscriptions_alone}
 use Rattle.ev_laws.proofs.Cells.{without, cell_step, rows_lead, cell-puts, cell-drops, cell-unless, fold-one_of, keyed_leads}

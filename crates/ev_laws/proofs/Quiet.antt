@@ -3,7 +3,7 @@ use Rattle.std.proofs.Common.{◌≡◌, Bool, true, false, List, [], ◌∷◌,
 use Rattle.std.proofs.lemmas.List.Sums.{fold-append}
 use Rattle.ev_rows.specs.Rows.{gained, kept, lost, keyed_events, one_of}
 use Rattle.ev_types.specs.declared.event.Event.{Event}
-use Rattle.ev_laws.specs.Changes.{unless}
+use Rattle.ev_types.specs.Changes.{unless}
 
 -- no event of the list changes anything
 pub record Quiet {C : Type 0} (step : C → Event → C) (events : List Event) : Type 0 where

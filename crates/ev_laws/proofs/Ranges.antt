@@ -8,13 +8,13 @@ use Rattle.std.specs.BTreeMap.{is_at}
 use Rattle.std.proofs.Math.Dec.{leb, ltb}
 use Rattle.std.proofs.lemmas.Bool.{cases_lt, eq-eqb, ltb-true}
 use Rattle.std.proofs.lemmas.Bool.Decides.{nat_tests}
-use Rattle.ev_rows.specs.Rows.{RowsRise, fresh, gained, keys_of, only_if, row_at}
+use Rattle.ev_rows.specs.Rows.{SortedByKey, fresh, gained, keys_of, only_if, row_at}
 use Rattle.ev_rows.proofs.PlaceLemmas.{below-from_rise}
 use Rattle.ev_rows.proofs.RowLemmas.{at_same}
 use Rattle.ev_base.specs.Orders.{stream_cmp, stream_order, stream_user_cmp, user_cmp}
 use Rattle.ev_base.specs.declared.ids.UserId.{UserId}
 use Rattle.ev_base.specs.declared.ids.StreamId.{StreamId}
-use Rattle.ev_laws.specs.Changes.{Peers, peers_of}
+use Rattle.ev_types.specs.Changes.{Peers, peers_of}
 use Rattle.ev_laws.proofs.Tests.{numbers_at}
 
 -- a filter that passes a number of elements from one place on, and no other
@@ -35,7 +35,7 @@ filter_range test (x ∷ xs) (suc i) n within front middle back =
 
 -- rows rise by a number that their order compares first
 pub numbers_rise : {K V : Type 0} (cmp : K → K → Ordering) (number : K → ℕ) (rows : List (K × V))
-    → ((a b : K) → nat_cmp (number a) (number b) ≡ Greater → cmp a b ≡ Greater) → RowsRise cmp rows
+    → ((a b : K) → nat_cmp (number a) (number b) ≡ Greater → cmp a b ≡ Greater) → SortedByKey cmp rows
     → IsNonDecreasingBy (λ (row : K × V). number row.0) rows
 numbers_rise {K} {V} cmp number rows first rise i j d order within = elim (cases_lt i j) [
   | inl before ↦ not_higher _ _ (first _ _) (below-from_rise cmp rows rise i j d before within)

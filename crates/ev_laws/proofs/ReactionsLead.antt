@@ -6,7 +6,7 @@ use Rattle.std.specs.Ordering.{ordering_then}
 use Rattle.std.specs.BTreeMap.{is_at}
 use Rattle.std.proofs.lemmas.List.Folds.{flat_map-map}
 use Rattle.std.proofs.lemmas.List.Sums.{fold-append}
-use Rattle.ev_rows.specs.Rows.{RowsRise, row_at, gained, kept, lost, fresh, keys_of, one_of, only_if}
+use Rattle.ev_rows.specs.Rows.{SortedByKey, row_at, gained, kept, lost, fresh, keys_of, one_of, only_if}
 use Rattle.ev_rows.proofs.RowFolds.{fold-flat_map_at, fold-each}
 use Rattle.ev_rows.proofs.RiseLemmas.{rise-filter}
 use Rattle.ev_rows.proofs.RowLemmas.{at_same, row_at-filter_keys}
@@ -21,8 +21,8 @@ use Rattle.ev_types.specs.Sections.{Sections, ReactionKey}
 use Rattle.ev_types.specs.Writes.{Write, put, drop_under, cell_after, cell_after_write}
 use Rattle.ev_types.specs.EventWrites.{reaction_rules, reaction_writes, reactions_of}
 use Rattle.ev_types.specs.Applying.{rows_applied}
-use Rattle.ev_laws.specs.Changes.{full_message, arrivals, KeptMessage, move_events, edits, flag_events, is_kept, of_kept, reaction_events, changes_between}
-use Rattle.ev_laws.specs.Comparable.{Comparable}
+use Rattle.ev_types.specs.Changes.{full_message, arrivals, KeptMessage, move_events, edits, flag_events, is_kept, of_kept, reaction_events, changes_between}
+use Rattle.ev_types.specs.Comparable.{Comparable}
 use Rattle.ev_laws.proofs.Groups.{quiet_people, quiet_moves, quiet_edits, quiet_flags, messages_alone}
 use Rattle.ev_laws.proofs.Cells.{over, without, cell_step, rows_lead, fold-one_of}
 use Rattle.ev_laws.proofs.MessagesLead.{arrivals_act, fold-message_events}
@@ -117,7 +117,7 @@ module _ (q : ReactionKey) where
     abbrev removed : Cell → Cell → Cell
     removed o c = option_map_or (λ v. None) o c
 
-    row_at-of_kept : (list : Reactions) → RowsRise reaction_cmp list → row_at reaction_cmp (of_kept before after list) q ≡ only_if both (row_at reaction_cmp list q)
+    row_at-of_kept : (list : Reactions) → SortedByKey reaction_cmp list → row_at reaction_cmp (of_kept before after list) q ≡ only_if both (row_at reaction_cmp list q)
     row_at-of_kept list rise = row_at-filter_keys reaction_order (λ (key : ReactionKey). is_kept before after key.0) list q rise
 
     told_reactions : (c : Cell) → fold step c (reaction_events before after) ≡ removed (only_if both (fresh new old)) (added (only_if both (fresh old new)) c)

@@ -20,7 +20,7 @@ use Rattle.ev_types.specs.declared.event.SubscriptionField.TheVariants as subscr
 use Rattle.ev_types.specs.declared.event.FullMessage.{FullMessage}
 use Rattle.ev_types.specs.declared.event.Event.TheVariants.{RealmUpdate, UserAdd, UserChange, StreamCreate, StreamChange, StreamDelete, SubAdd, SubChange, SubRemove, PeerAdd, PeerRemove, MessageNew, MessagesRestored, MessageMoved, MessageEdited, Flags, MessageGone, ReactionAdd, ReactionRemove}
 use Rattle.ev_types.specs.Sections.{Sections, ReactionKey}
-use Rattle.ev_laws.specs.Changes.{changes_between, realm_changes, user_events, stream_events, subscription_events, Peers}
+use Rattle.ev_types.specs.Changes.{changes_between, realm_changes, user_events, stream_events, subscription_events, Peers}
 
 abbrev user : ℕ → UserId
 user n = record { 0 = n }

@@ -6,7 +6,7 @@ use Rattle.std.specs.BTreeMap.{is_at}
 use Rattle.std.proofs.lemmas.Cmp.{tied_itself}
 use Rattle.std.proofs.lemmas.List.Folds.{flat_map-map}
 use Rattle.std.proofs.lemmas.List.Sums.{fold-append}
-use Rattle.ev_rows.specs.Rows.{RowsRise, row_at, gained, kept, lost, fresh, keys_of, one_of}
+use Rattle.ev_rows.specs.Rows.{SortedByKey, row_at, gained, kept, lost, fresh, keys_of, one_of}
 use Rattle.ev_rows.proofs.RowFolds.{fold-flat_map_at}
 use Rattle.ev_rows.proofs.RiseLemmas.{IsBelow, rise-nil, rise-cons, rise_head, rise_tail}
 use Rattle.ev_rows.proofs.RowLemmas.{at_itself, at_same}
@@ -21,8 +21,8 @@ use Rattle.ev_types.specs.Sections.{Sections}
 use Rattle.ev_types.specs.Writes.{put, drop_row, drop_under, cell_after}
 use Rattle.ev_types.specs.EventWrites.{subscriber_rules, subscriber_writes}
 use Rattle.ev_types.specs.Applying.{rows_applied}
-use Rattle.ev_laws.specs.Changes.{stream_changes, stream_events, Peers, peers_of, peers_added, peers_removed, peer_events, changes_between}
-use Rattle.ev_laws.specs.Comparable.{Comparable}
+use Rattle.ev_types.specs.Changes.{stream_changes, stream_events, Peers, peers_of, peers_added, peers_removed, peer_events, changes_between}
+use Rattle.ev_types.specs.Comparable.{Comparable}
 use Rattle.ev_laws.proofs.Quiet.{skip_front, quiet_append, quiet_one_of, quiet_flat_map}
 use Rattle.ev_laws.proofs.Groups.{quiet_stream_changes, quiet_realm, quiet_users, quiet_subscriptions, quiet_messages, peers_after_streams}
 use Rattle.ev_laws.proofs.Cells.{over, without, cell_step, rows_lead, fold-one_of}
@@ -50,11 +50,11 @@ module _ (s : StreamId) where
           rw is (sym (ap (λ (o : Ordering). ordering_then o (user_cmp u row.0.1)) tied) ∙ below.0, further)
       go false is further = rw is further
 
-  pub rise-peers_of : (rows : Peers) → RowsRise stream_user_cmp rows → RowsRise user_cmp (peers_of s rows)
+  pub rise-peers_of : (rows : Peers) → SortedByKey stream_user_cmp rows → SortedByKey user_cmp (peers_of s rows)
   rise-peers_of [] rise = rise-nil user_cmp
   rise-peers_of (row ∷ rows) rise = go (is_at (stream_cmp s) row.0.0) refl (rise-peers_of rows (rise_tail stream_user_cmp row rows rise))
     where
-      go : (here : Bool) → is_at (stream_cmp s) row.0.0 ≡ here → RowsRise user_cmp (peers_of s rows) → RowsRise user_cmp (peers_of s (row ∷ rows))
+      go : (here : Bool) → is_at (stream_cmp s) row.0.0 ≡ here → SortedByKey user_cmp (peers_of s rows) → SortedByKey user_cmp (peers_of s (row ∷ rows))
       go true is further =
           let P : StreamId → Type 0 = λ t. IsBelow stream_user_cmp (t, row.0.1) rows in
           rw is (rise-cons user_cmp (row.0.1, row.1) (peers_of s rows) (below-peers_of row.0.1 rows (subst P (sym (at_same stream_order s row.0.0 is)) (rise_head stream_user_cmp row rows rise))) further)
@@ -136,7 +136,7 @@ module _ (q : StreamId × UserId) where
     stream_after = row_at stream_cmp after.streams q.0
 
     -- the streams that are lost take their subscribers along
-    told_streams : RowsRise stream_cmp before.streams → (cell : Option (Unit {0})) → fold step cell (stream_events before.streams after.streams) ≡ without (fresh stream_after stream_before) cell
+    told_streams : SortedByKey stream_cmp before.streams → (cell : Option (Unit {0})) → fold step cell (stream_events before.streams after.streams) ≡ without (fresh stream_after stream_before) cell
     told_streams rises cell =
         skip_front step (one_of StreamCreate (gained stream_cmp before.streams after.streams) ++ flat_map stream_changes (kept stream_cmp before.streams after.streams)) (one_of StreamDelete (keys_of (lost stream_cmp before.streams after.streams)))
         (quiet_append step (one_of StreamCreate (gained stream_cmp before.streams after.streams)) (flat_map stream_changes (kept stream_cmp before.streams after.streams))

@@ -3,8 +3,8 @@ use Rattle.std.proofs.Common.{◌≡◌, ◌∙◌}
 use Rattle.ev_types.specs.Sections.{Sections}
 use Rattle.ev_types.specs.Applying.{applied}
 use Rattle.ev_types.proofs.SectionsSettle.{applied-again}
-use Rattle.ev_laws.specs.Changes.{changes_between}
-use Rattle.ev_laws.specs.Comparable.{Comparable}
+use Rattle.ev_types.specs.Changes.{changes_between}
+use Rattle.ev_types.specs.Comparable.{Comparable}
 use Rattle.ev_laws.proofs.PeopleLead.{realm_leads, users_lead, streams_lead, subscriptions_lead}
 use Rattle.ev_laws.proofs.SubscribersLead.{subscribers_lead}
 use Rattle.ev_laws.proofs.MessagesLead.{messages_lead}

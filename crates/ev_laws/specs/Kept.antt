@@ -1,6 +1,6 @@
 -- The messages that stand in both views, as the comparison of two views holds them.
 use Rattle.ev_laws.specs.declared.changing.kept.KeptMessage.{KeptMessage}
-use Rattle.ev_laws.specs.Changes.{KeptMessage as KeptRow}
+use Rattle.ev_types.specs.Changes.{KeptMessage as KeptRow}
 
 -- the rows that the references point to
 abbrev pub kept_row : KeptMessage → KeptRow

@@ -2,8 +2,8 @@
 use Rattle.std.specs.Prelude.{◌≡◌}
 use Rattle.ev_types.specs.Sections.{Sections}
 use Rattle.ev_types.specs.Applying.{applied}
-use Rattle.ev_laws.specs.Changes.{changes_between}
-use Rattle.ev_laws.specs.Comparable.{Comparable}
+use Rattle.ev_types.specs.Changes.{changes_between}
+use Rattle.ev_types.specs.Comparable.{Comparable}
 
 -- applying what changed between two views to the first gives the second, in all nine sections
 abbrev pub ChangesLeadToTheView : Type 0

@@ -1,5 +1,3 @@
-pub mod Changes
-pub mod Comparable
 pub mod Compared
 pub mod Kept
 pub mod Laws

@@ -2,7 +2,7 @@
 
 ghost use Rattle.std.specs.Prelude.{◌≡◌, ◌++◌, IfOk};
 ghost use Rattle.ev_types.specs.Sections.{IsWhole, Sections};
-ghost use Rattle.ev_laws.specs.Changes.{changes_between, message_events, peer_events, realm_changes, stream_events, subscription_events, user_events};
+ghost use Rattle.ev_types.specs.Changes.{changes_between, message_events, peer_events, realm_changes, stream_events, subscription_events, user_events};
 ghost use Rattle.ev_laws.specs.Compared.{sections_in};
 
 mod compared;

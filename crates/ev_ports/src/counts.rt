@@ -1,3 +1,5 @@
+//! Counts that stand still at the end of their type.
+
 ghost use Rattle.std.specs.Prelude.{◌≡◌, ◌≤◌};
 ghost use Rattle.ev_ports.specs.Ports.{one_more};
 

@@ -1,3 +1,5 @@
+//! Where input comes from: the trait `Source`, and what a read answers.
+
 ghost use Rattle.std.specs.Prelude.{◌≡◌, ◌<◌, ◌≤◌, ℕ, List, Option, length};
 ghost use Rattle.ev_ports.specs.Ports.{Rose, Takes};
 

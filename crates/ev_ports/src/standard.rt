@@ -10,7 +10,7 @@ use std::io::{ErrorKind, Read, Write};
 use std::marker::Model;
 
 /// A call tries once, and again where it was interrupted, at most a thousand times.
-const MOST_TRIES: u32 = 1 + 1_000;
+const MAX_TRIES: u32 = 1 + 1_000;
 
 /// A source over a reader of std. Each error is a fault, but for an interruption: the read is tried
 /// again, at most a thousand times, and one more interruption is a fault.
@@ -59,7 +59,7 @@ impl<R: Read> Source for StdSource<R> {
         ensures count { self.old.faults ≤ self.new.faults }
         ensures cause { result ≡ Took.Failed → Rose self.old.faults self.new.faults }
     {
-        for _ in 0..MOST_TRIES {
+        for _ in 0..MAX_TRIES {
             match self.reader.read(into) {
                 Ok(0) => return Took::End,
                 Ok(count) => return Took::Bytes(count),
@@ -128,7 +128,7 @@ impl<W: Write> Sink for StdSink<W> {
         ensures count { self.old.faults ≤ self.new.faults }
         ensures cause { result ≡ Put.Failed → Rose self.old.faults self.new.faults }
     {
-        for _ in 0..MOST_TRIES {
+        for _ in 0..MAX_TRIES {
             match self.writer.write(bytes) {
                 Ok(0) => break,
                 Ok(count) => return Put::Wrote(count),

@@ -1,3 +1,5 @@
+//! Where output goes: the trait `Sink`, and what a write answers.
+
 ghost use Rattle.std.specs.Prelude.{◌≡◌, ◌<◌, ◌≤◌, ℕ, List, Option, length};
 ghost use Rattle.ev_ports.specs.Ports.{Rose, Puts, PutsAll};
 

@@ -2,7 +2,7 @@
 use Rattle.std.proofs.Common.{◌≡◌, List, [], flat_map, Ordering, Option, None, Some, option_map, option_and_then, sym, ap, refl, ◌∙◌}
 use Rattle.std.proofs.lemmas.Option.{same_Some}
 use Rattle.ev_rows.specs.KeyOrder.{KeyOrder}
-use Rattle.ev_rows.specs.Rows.{RowsRise, row_at, fresh, both_of, made_of, one_row, AgreeBut, gained, kept, keyed_events, events_at}
+use Rattle.ev_rows.specs.Rows.{SortedByKey, row_at, fresh, both_of, made_of, one_row, AgreeBut, gained, kept, keyed_events, events_at}
 use Rattle.ev_rows.proofs.RiseLemmas.{rise-nil, rise-sift}
 use Rattle.ev_rows.proofs.RowLemmas.{row_at-sift, same_rows, only_at, flat_map_at, flat_map_quiet}
 
@@ -30,20 +30,20 @@ module _ {V W : Type 0} where
 
 module _ {K V W : Type 0} {cmp : K → K → Ordering} (order : KeyOrder cmp) (before : List (K × V)) (after : List (K × W)) where
   -- the row of a key among those that were gained, and among those that were kept
-  pub row_at-gained : RowsRise cmp after → (q : K) → row_at cmp (gained cmp before after) q ≡ fresh (row_at cmp before q) (row_at cmp after q)
+  pub row_at-gained : SortedByKey cmp after → (q : K) → row_at cmp (gained cmp before after) q ≡ fresh (row_at cmp before q) (row_at cmp after q)
   row_at-gained rise q = row_at-sift order (λ row. fresh (row_at cmp before row.0) (Some row.1)) after q rise ∙ fresh_each (row_at cmp before q) (row_at cmp after q)
 
-  pub row_at-kept : RowsRise cmp after → (q : K) → row_at cmp (kept cmp before after) q ≡ both_of (row_at cmp before q) (row_at cmp after q)
+  pub row_at-kept : SortedByKey cmp after → (q : K) → row_at cmp (kept cmp before after) q ≡ both_of (row_at cmp before q) (row_at cmp after q)
   row_at-kept rise q = row_at-sift order (λ row. both_of (row_at cmp before row.0) (Some row.1)) after q rise ∙ both_each (row_at cmp before q) (row_at cmp after q)
 
 module _ {K V W : Type 0} (cmp : K → K → Ordering) (before : List (K × V)) (after : List (K × W)) where
-  pub rise-gained : RowsRise cmp after → RowsRise cmp (gained cmp before after)
+  pub rise-gained : SortedByKey cmp after → SortedByKey cmp (gained cmp before after)
   rise-gained rise = rise-sift cmp (λ row. fresh (row_at cmp before row.0) (Some row.1)) after rise
 
-  pub rise-kept : RowsRise cmp after → RowsRise cmp (kept cmp before after)
+  pub rise-kept : SortedByKey cmp after → SortedByKey cmp (kept cmp before after)
   rise-kept rise = rise-sift cmp (λ row. both_of (row_at cmp before row.0) (Some row.1)) after rise
 
-module _ {K V : Type 0} {cmp : K → K → Ordering} (order : KeyOrder cmp) (rows : List (K × V)) (rise : RowsRise cmp rows) where
+module _ {K V : Type 0} {cmp : K → K → Ordering} (order : KeyOrder cmp) (rows : List (K × V)) (rise : SortedByKey cmp rows) where
   -- a list gains nothing over itself
   pub gained_same : gained cmp rows rows ≡ []
   gained_same = same_rows order (gained cmp rows rows) [] (rise-gained cmp rows rows rise) (rise-nil cmp) (λ q. row_at-gained order rows rows rise q ∙ fresh-same (row_at cmp rows q))
@@ -54,13 +54,13 @@ module _ {K V E : Type 0} {cmp : K → K → Ordering} (order : KeyOrder cmp) (c
   same_quiet q None both is = cc
   same_quiet q (Some v) both is = let same : (v, v) ≡ both = same_Some (v, v) both is in ap (λ b. change (q, b)) (sym same) ∙ quiet q v
 
-  pub kept_quiet : (rows : List (K × V)) → RowsRise cmp rows → flat_map change (kept cmp rows rows) ≡ []
+  pub kept_quiet : (rows : List (K × V)) → SortedByKey cmp rows → flat_map change (kept cmp rows rows) ≡ []
   kept_quiet rows rise =
       flat_map_quiet order change (kept cmp rows rows) (rise-kept cmp rows rows rise)
       (λ q both is. same_quiet q (row_at cmp rows q) both (sym (row_at-kept order rows rows rise q) ∙ is))
 
   -- the changes of the kept rows, where one key's row alone may have changed
-  pub kept_at : (before after : List (K × V)) (key : K) → RowsRise cmp after → AgreeBut cmp key before after
+  pub kept_at : (before after : List (K × V)) (key : K) → SortedByKey cmp after → AgreeBut cmp key before after
       → flat_map change (kept cmp before after) ≡ made_of (λ both. change (key, both)) (both_of (row_at cmp before key) (row_at cmp after key))
   kept_at before after key rise agree =
       flat_map_at order change (kept cmp before after) key (rise-kept cmp before after rise)
@@ -69,7 +69,7 @@ module _ {K V E : Type 0} {cmp : K → K → Ordering} (order : KeyOrder cmp) (c
 
 module _ {K V : Type 0} {cmp : K → K → Ordering} (order : KeyOrder cmp) (before after : List (K × V)) (key : K) where
   -- what is gained, where one key's row alone may have changed
-  pub gained_at : RowsRise cmp after → AgreeBut cmp key before after → gained cmp before after ≡ one_row key (fresh (row_at cmp before key) (row_at cmp after key))
+  pub gained_at : SortedByKey cmp after → AgreeBut cmp key before after → gained cmp before after ≡ one_row key (fresh (row_at cmp before key) (row_at cmp after key))
   gained_at rise agree =
       only_at order (gained cmp before after) key (rise-gained cmp before after rise)
       (λ q off. row_at-gained order before after rise q ∙ ap (fresh (row_at cmp before q)) (agree q off) ∙ fresh-same (row_at cmp before q))
@@ -78,11 +78,11 @@ module _ {K V : Type 0} {cmp : K → K → Ordering} (order : KeyOrder cmp) (bef
 module _ {K V E : Type 0} {cmp : K → K → Ordering} (order : KeyOrder cmp)
     (create : List (K × V) → List E) (change : K × (V × V) → List E) (delete : List (K × V) → List E) (quiet : (q : K) (v : V) → change (q, (v, v)) ≡ []) where
   -- the events of a change of one key's row
-  pub keyed_at : (before after : List (K × V)) (key : K) → RowsRise cmp before → RowsRise cmp after → AgreeBut cmp key before after
+  pub keyed_at : (before after : List (K × V)) (key : K) → SortedByKey cmp before → SortedByKey cmp after → AgreeBut cmp key before after
       → keyed_events cmp create change delete before after ≡ events_at create change delete key (row_at cmp before key) (row_at cmp after key)
   keyed_at before after key before_rise after_rise agree =
       rw (gained_at order before after key after_rise agree, kept_at order change quiet before after key after_rise agree, gained_at order after before key before_rise (λ q off. sym (agree q off))) refl
 
   -- a list that stays makes no event
-  pub keyed_quiet : (rows : List (K × V)) → RowsRise cmp rows → create [] ≡ [] → delete [] ≡ [] → keyed_events cmp create change delete rows rows ≡ []
+  pub keyed_quiet : (rows : List (K × V)) → SortedByKey cmp rows → create [] ≡ [] → delete [] ≡ [] → keyed_events cmp create change delete rows rows ≡ []
   keyed_quiet rows rise no_create no_delete = rw (gained_same order rows rise, kept_quiet order change quiet rows rise, no_create, no_delete) refl

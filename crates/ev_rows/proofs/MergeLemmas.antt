@@ -6,7 +6,7 @@ use Rattle.std.specs.Ordering.{match_ordering}
 use Rattle.std.specs.BTreeMap.{insert_entry}
 use Rattle.std.proofs.lemmas.Bool.{cases_lt}
 use Rattle.std.proofs.lemmas.Cmp.{tied_back, alike_right}
-use Rattle.ev_rows.specs.Rows.{RowsRise, with_rows}
+use Rattle.ev_rows.specs.Rows.{SortedByKey, with_rows}
 use Rattle.ev_rows.proofs.RiseLemmas.{AreBelow, rise_front, above-below, below-above, rise-insert_entry}
 
 module _ {K V : Type 0} {cmp : K → K → Ordering} (total : IsTotalOrder cmp) where
@@ -86,7 +86,7 @@ module _ {K V : Type 0} {cmp : K → K → Ordering} (total : IsTotalOrder cmp) 
   passes_new rows new row below new_below = with_rows-push rows new row ∙ insert_entry-above (with_rows cmp rows new) row.0 row.1 (AreBelow-with_rows rows new row.0 below new_below)
 
   -- rows that rise, with new ones among them
-  pub rise-with_rows : (rows new : List (K × V)) → RowsRise cmp rows → RowsRise cmp (with_rows cmp rows new)
+  pub rise-with_rows : (rows new : List (K × V)) → SortedByKey cmp rows → SortedByKey cmp (with_rows cmp rows new)
   rise-with_rows rows [] rise = rise
   rise-with_rows rows (row ∷ new) rise = rise-with_rows (insert_entry cmp rows row.0 row.1) new (rise-insert_entry total row.0 row.1 rows rise)
 
@@ -97,8 +97,8 @@ pub record IsMerging {K V : Type 0} (cmp : K → K → Ordering) (old new ring :
   pub parts : ring ≡ done ++ waiting
   pub long : length waiting ≡ left
   pub merges : with_rows cmp waiting remaining ++ done ≡ with_rows cmp old new
-  pub waiting_rise : RowsRise cmp waiting
-  pub remaining_rise : RowsRise cmp remaining
+  pub waiting_rise : SortedByKey cmp waiting
+  pub remaining_rise : SortedByKey cmp remaining
 
 module _ {X : Type 0} where
   -- the last element of a list that isn't empty, and those before it
@@ -146,7 +146,7 @@ record LastOf {K V : Type 0} (cmp : K → K → Ordering) (done waiting ring : L
   read : (d : K × V) → get_or ring (len - 1) d ≡ last
   front_is : take (len - 1) ring ≡ done ++ rest
   end_is : drop (len - 1) ring ≡ last ∷ []
-  rest_rise : RowsRise cmp rest
+  rest_rise : SortedByKey cmp rest
   below : AreBelow cmp rest last.0
 
 module _ {K V : Type 0} {cmp : K → K → Ordering} {old new ring remaining : List (K × V)} {left : ℕ} (merging : IsMerging cmp old new ring left remaining) where
@@ -174,7 +174,7 @@ module _ {K V : Type 0} {cmp : K → K → Ordering} (total : IsTotalOrder cmp) 
   merges_last : (waiting rest : List (K × V)) (last : K × V) → with_rows cmp merging.waiting remaining ≡ with_rows cmp waiting rest ++ last ∷ [] → with_rows cmp waiting rest ++ last ∷ merging.done ≡ with_rows cmp old new
   merges_last waiting rest last is = sym (append_assoc (with_rows cmp waiting rest) (last ∷ []) merging.done) ∙ ap (λ l. l ++ merging.done) (sym is) ∙ merging.merges
 
-  front_rise : RowsRise cmp front × AreBelow cmp front row.0
+  front_rise : SortedByKey cmp front × AreBelow cmp front row.0
   front_rise = rise_front cmp front row (rw remaining_is at merging.remaining_rise)
 
   -- the old row goes first

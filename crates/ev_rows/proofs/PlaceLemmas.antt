@@ -8,7 +8,7 @@ use Rattle.std.specs.BTreeMap.{insert_entry, is_at}
 use Rattle.std.proofs.lemmas.Cmp.{tied_back, alike_right}
 use Rattle.std.proofs.lemmas.List.Sorted.{searchable_from_sorted}
 use Rattle.std.proofs.lemmas.Map.Keys.{Less-from_sorted, sorted_from_all_adjacent}
-use Rattle.ev_rows.specs.Rows.{RowsRise, keys_of, row_at}
+use Rattle.ev_rows.specs.Rows.{SortedByKey, keys_of, row_at}
 use Rattle.ev_rows.specs.Place.{IsFoundAt, IsGapAt, IsPlace}
 use Rattle.ev_rows.proofs.RiseLemmas.{IsBelow, IsBelow-further, rise-nil, rise_head, rise_tail, below-above, above-below}
 
@@ -69,7 +69,7 @@ module _ {K V : Type 0} where
 
 module _ {K V : Type 0} (cmp : K → K → Ordering) where
   -- of two rows that rise, the earlier one's key is below the later one's
-  pub below-from_rise : (rows : List (K × V)) → RowsRise cmp rows → (i j : ℕ) (d : K × V) → i < j → j < length rows → cmp (get_or rows i d).0 (get_or rows j d).0 ≡ Less
+  pub below-from_rise : (rows : List (K × V)) → SortedByKey cmp rows → (i j : ℕ) (d : K × V) → i < j → j < length rows → cmp (get_or rows i d).0 (get_or rows j d).0 ≡ Less
   below-from_rise rows rise i j d before within =
       let less = Less-from_sorted cmp (keys_of rows) i j d.0 rise before (omega (arith, length-keys_of rows)) in
       let one = get_or-keys_of rows i d in
@@ -77,7 +77,7 @@ module _ {K V : Type 0} (cmp : K → K → Ordering) where
       rw (one, other) at less
 
 module _ {K V : Type 0} {cmp : K → K → Ordering} (total : IsTotalOrder cmp) where
-  rise_from_adjacent : (rows : List (K × V)) → AllAdjacentBelow (λ (a b : K × V). is_lt (cmp a.0 b.0) ≡ true) rows (length rows) → RowsRise cmp rows
+  rise_from_adjacent : (rows : List (K × V)) → AllAdjacentBelow (λ (a b : K × V). is_lt (cmp a.0 b.0) ≡ true) rows (length rows) → SortedByKey cmp rows
   rise_from_adjacent [] less = rise-nil cmp
   rise_from_adjacent (row ∷ rows) less = sorted_from_all_adjacent total (keys_of (row ∷ rows)) row.0 (λ k within.
       let one = get_or-keys_of (row ∷ rows) k row in
@@ -85,7 +85,7 @@ module _ {K V : Type 0} {cmp : K → K → Ordering} (total : IsTotalOrder cmp) 
       rw (one, other) (Less-from_is_lt _ (less k row (omega (arith, length-keys_of (row ∷ rows))))))
 
   -- what a test of each row and the next says of the whole list
-  pub rise_from_answer : (rows : List (K × V)) (answer : Bool) → IsAllAdjacentAnswer (λ (a b : K × V) r. r ≡ is_lt (cmp a.0 b.0)) rows answer → IsTrue answer ↔ RowsRise cmp rows
+  pub rise_from_answer : (rows : List (K × V)) (answer : Bool) → IsAllAdjacentAnswer (λ (a b : K × V) r. r ≡ is_lt (cmp a.0 b.0)) rows answer → IsTrue answer ↔ SortedByKey cmp rows
   rise_from_answer rows true less = (λ _. rise_from_adjacent rows (λ k d within. sym (less k d within)), λ _. refl)
   rise_from_answer [] false (k, within, more) = absurd (omega arith)
   rise_from_answer (row ∷ rows) false (k, within, more) =
@@ -101,12 +101,12 @@ module _ {K V : Type 0} {cmp : K → K → Ordering} (total : IsTotalOrder cmp) 
   remove_entry-below [] below = refl
   remove_entry-below (row ∷ rows) below = let head = below.0 in rw head (ap (λ rest. row ∷ rest) (remove_entry-below rows below.1))
 
-  pub remove_entry-gap : (rows : List (K × V)) (at : ℕ) → RowsRise cmp rows → IsGapAt (cmp key) rows at → remove_entry (is_at (cmp key)) rows ≡ rows
+  pub remove_entry-gap : (rows : List (K × V)) (at : ℕ) → SortedByKey cmp rows → IsGapAt (cmp key) rows at → remove_entry (is_at (cmp key)) rows ≡ rows
   remove_entry-gap [] at rise gap = refl
   remove_entry-gap (row ∷ rows) zero rise gap = remove_entry-below (row ∷ rows) (gap, IsBelow-further total key row.0 rows gap (rise_head cmp row rows rise))
   remove_entry-gap (row ∷ rows) (suc at) rise gap = let head = gap.0 in rw head (ap (λ rest. row ∷ rest) (remove_entry-gap rows at (rise_tail cmp row rows rise) gap.1))
 
-  pub lookup-gap : (rows : List (K × V)) (at : ℕ) → RowsRise cmp rows → IsGapAt (cmp key) rows at → row_at cmp rows key ≡ None
+  pub lookup-gap : (rows : List (K × V)) (at : ℕ) → SortedByKey cmp rows → IsGapAt (cmp key) rows at → row_at cmp rows key ≡ None
   lookup-gap [] zero rise gap = refl
   lookup-gap [] (suc at) rise gap = absurd gap
   lookup-gap (row ∷ rows) zero rise gap = lookup-below (row ∷ rows) (gap, IsBelow-further total key row.0 rows gap (rise_head cmp row rows rise))
@@ -118,7 +118,7 @@ module _ {K V : Type 0} {cmp : K → K → Ordering} (total : IsTotalOrder cmp) 
   below_found low (row ∷ rows) zero below found = alike_right total key row.0 low found ∙ below.0
   below_found low (row ∷ rows) (suc at) below found = below_found low rows at below.1 found.1
 
-  found_from_equal : (rows : List (K × V)) (at : ℕ) → RowsRise cmp rows → at < length rows → ((d : K × V) → cmp (get_or rows at d).0 key ≡ Equal) → IsFoundAt (cmp key) rows at
+  found_from_equal : (rows : List (K × V)) (at : ℕ) → SortedByKey cmp rows → at < length rows → ((d : K × V) → cmp (get_or rows at d).0 key ≡ Equal) → IsFoundAt (cmp key) rows at
   found_from_equal [] at rise within equal = absurd (omega arith)
   found_from_equal (row ∷ rows) zero rise within equal = tied_back total row.0 key (equal row)
   found_from_equal (row ∷ rows) (suc at) rise within equal =
@@ -136,10 +136,10 @@ module _ {K V : Type 0} {cmp : K → K → Ordering} (total : IsTotalOrder cmp) 
   )
 
   -- rows that rise are sorted as a binary search asks
-  sorted_from_rise : (rows : List (K × V)) → RowsRise cmp rows → IsSortedBy (λ (a b : K × V). is_lt (cmp a.0 b.0)) rows
+  sorted_from_rise : (rows : List (K × V)) → SortedByKey cmp rows → IsSortedBy (λ (a b : K × V). is_lt (cmp a.0 b.0)) rows
   sorted_from_rise rows rise k d low high = ap is_lt (above-below total _ _ (below-from_rise cmp rows rise k (k + 1) d (omega arith) high))
 
-  pub place_from_search : (rows : List (K × V)) (place : Result ℕ ℕ) → RowsRise cmp rows → IsSearchInRange place (length rows)
+  pub place_from_search : (rows : List (K × V)) (place : Result ℕ ℕ) → SortedByKey cmp rows → IsSearchInRange place (length rows)
       → IsBinarySearchResult (λ row. cmp row.0 key) rows place → IsPlace (cmp key) rows place
   place_from_search rows (Ok at) rise within equal = found_from_equal rows at rise within equal
   place_from_search rows (Err at) rise within parted =

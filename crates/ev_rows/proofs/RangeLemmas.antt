@@ -5,7 +5,7 @@ use Rattle.std.specs.List.{AllWithin, remove_range}
 use Rattle.std.specs.List.Sorted.{IsPartitionedBy, IsPartitionPoint}
 use Rattle.std.proofs.lemmas.Bool.{cases_lt}
 use Rattle.std.proofs.lemmas.Cmp.{alike_right}
-use Rattle.ev_rows.specs.Rows.{RowsRise, is_outside}
+use Rattle.ev_rows.specs.Rows.{SortedByKey, is_outside}
 use Rattle.ev_rows.proofs.PlaceLemmas.{below-from_rise}
 
 module _ {X : Type 0} (test : X → Bool) where
@@ -65,18 +65,18 @@ module _ {K : Type 0} {cmp : K → K → Ordering} (total : IsTotalOrder cmp) wh
 
 module _ {K V : Type 0} {cmp : K → K → Ordering} (total : IsTotalOrder cmp) where
   -- a test that holds of each key below one of which it holds
-  partitioned : (test : K → Bool) → ((x y : K) → cmp x y ≡ Less → test y ≡ true → test x ≡ true) → (rows : List (K × V)) → RowsRise cmp rows → IsPartitionedBy (λ (row : K × V). test row.0) rows
+  partitioned : (test : K → Bool) → ((x y : K) → cmp x y ≡ Less → test y ≡ true → test x ≡ true) → (rows : List (K × V)) → SortedByKey cmp rows → IsPartitionedBy (λ (row : K × V). test row.0) rows
   partitioned test down rows rise i j d order within pass = elim (cases_lt i j) [
     | inl before ↦ down _ _ (below-from_rise cmp rows rise i j d before within) pass
     | inr after ↦ let same : i ≡ j = omega arith in rw same pass
   ]
 
   -- the keys below one come first
-  pub partitioned_below : (low : K) (rows : List (K × V)) → RowsRise cmp rows → IsPartitionedBy (λ (row : K × V). is_lt (cmp row.0 low)) rows
+  pub partitioned_below : (low : K) (rows : List (K × V)) → SortedByKey cmp rows → IsPartitionedBy (λ (row : K × V). is_lt (cmp row.0 low)) rows
   partitioned_below low = partitioned (λ k. is_lt (cmp k low)) (below_down total low)
 
   -- and so do those up to one
-  pub partitioned_up_to : (high : K) (rows : List (K × V)) → RowsRise cmp rows → IsPartitionedBy (λ (row : K × V). is_le (cmp row.0 high)) rows
+  pub partitioned_up_to : (high : K) (rows : List (K × V)) → SortedByKey cmp rows → IsPartitionedBy (λ (row : K × V). is_le (cmp row.0 high)) rows
   partitioned_up_to high = partitioned (λ k. is_le (cmp k high)) (up_to_down total high)
 
   -- the places that part the rows at the two keys leave the rows outside

@@ -1,4 +1,4 @@
--- Lists of rows that rise by key: one row in front, and the edits that keep them rising.
+-- Lists of rows sorted by key: one row in front, and the edits that keep them rising.
 use Rattle.std.proofs.Common.{◌≡◌, Bool, true, false, cond, List, [], ◌∷◌, ◌++◌, filter, Less, Equal, Greater, Ordering, Option, None, Some, option_map, sym, ap, subst, refl, ◌∙◌}
 use Rattle.std.specs.Cmp.{IsTotalOrder}
 use Rattle.std.specs.Ordering.{match_ordering, ordering_reverse}
@@ -7,7 +7,7 @@ use Rattle.std.specs.List.Sorted.{IsStrictlySortedBy}
 use Rattle.std.specs.Map.{remove_entry, set_value}
 use Rattle.std.specs.BTreeMap.{insert_entry}
 use Rattle.std.proofs.lemmas.Map.{keys-set_value}
-use Rattle.ev_rows.specs.Rows.{RowsRise, keys_of, sift}
+use Rattle.ev_rows.specs.Rows.{SortedByKey, keys_of, sift}
 
 -- the key is below those of all the rows
 abbrev pub IsBelow : {K V : Type 0} → (K → K → Ordering) → K → List (K × V) → Type 0
@@ -22,16 +22,16 @@ unfolding IsStrictlySortedBy
 rise-nil cmp = tt
 
 module _ {K V : Type 0} (cmp : K → K → Ordering) where
-  pub rise-cons : (row : K × V) (rows : List (K × V)) → IsBelow cmp row.0 rows → RowsRise cmp rows → RowsRise cmp (row ∷ rows)
+  pub rise-cons : (row : K × V) (rows : List (K × V)) → IsBelow cmp row.0 rows → SortedByKey cmp rows → SortedByKey cmp (row ∷ rows)
   unfolding IsStrictlySortedBy
   rise-cons row rows below rise = (below, rise)
 
   -- the first key is below the others
-  pub rise_head : (row : K × V) (rows : List (K × V)) → RowsRise cmp (row ∷ rows) → IsBelow cmp row.0 rows
+  pub rise_head : (row : K × V) (rows : List (K × V)) → SortedByKey cmp (row ∷ rows) → IsBelow cmp row.0 rows
   unfolding IsStrictlySortedBy
   rise_head row rows rise = rise.0
 
-  pub rise_tail : (row : K × V) (rows : List (K × V)) → RowsRise cmp (row ∷ rows) → RowsRise cmp rows
+  pub rise_tail : (row : K × V) (rows : List (K × V)) → SortedByKey cmp (row ∷ rows) → SortedByKey cmp rows
   unfolding IsStrictlySortedBy
   rise_tail row rows rise = rise.1
 
@@ -41,7 +41,7 @@ module _ {K V : Type 0} (cmp : K → K → Ordering) where
   below_front key (row ∷ rows) last below = let further = below_front key rows last below.1 in ((below.0, further.0), further.1)
 
   -- rows that rise end with their greatest key
-  pub rise_front : (rows : List (K × V)) (last : K × V) → RowsRise cmp (rows ++ last ∷ []) → RowsRise cmp rows × AreBelow cmp rows last.0
+  pub rise_front : (rows : List (K × V)) (last : K × V) → SortedByKey cmp (rows ++ last ∷ []) → SortedByKey cmp rows × AreBelow cmp rows last.0
   rise_front [] last rise = (rise-nil cmp, tt)
   rise_front (row ∷ rows) last rise =
       let further = rise_front rows last (rise_tail cmp row (rows ++ last ∷ []) rise) in
@@ -77,21 +77,21 @@ module _ {K : Type 0} {cmp : K → K → Ordering} (total : IsTotalOrder cmp) wh
         go Greater further = (below.0, further)
 
     -- rows that rise with one put among them
-    pub rise-insert_entry : (key : K) (value : V) (rows : List (K × V)) → RowsRise cmp rows → RowsRise cmp (insert_entry cmp rows key value)
+    pub rise-insert_entry : (key : K) (value : V) (rows : List (K × V)) → SortedByKey cmp rows → SortedByKey cmp (insert_entry cmp rows key value)
     rise-insert_entry key value [] rise = rise-cons cmp (key, value) [] tt rise
     rise-insert_entry key value (row ∷ rows) rise = go (cmp key row.0) refl (rise-insert_entry key value rows (rise_tail cmp row rows rise))
       where
         below : IsBelow cmp row.0 rows
         below = rise_head cmp row rows rise
 
-        go : (o : Ordering) → cmp key row.0 ≡ o → RowsRise cmp (insert_entry cmp rows key value) → RowsRise cmp (match_ordering o ((key, value) ∷ row ∷ rows) ((row.0, value) ∷ rows) (row ∷ insert_entry cmp rows key value))
+        go : (o : Ordering) → cmp key row.0 ≡ o → SortedByKey cmp (insert_entry cmp rows key value) → SortedByKey cmp (match_ordering o ((key, value) ∷ row ∷ rows) ((row.0, value) ∷ rows) (row ∷ insert_entry cmp rows key value))
         go Less is further = rise-cons cmp (key, value) (row ∷ rows) (is, IsBelow-further key row.0 rows is below) rise
         go Equal is further = rise-cons cmp (row.0, value) rows below (rise_tail cmp row rows rise)
         go Greater is further = rise-cons cmp row (insert_entry cmp rows key value) (IsBelow-insert_entry row.0 key value rows (below-above key row.0 is) below) further
 
 module _ {K V : Type 0} (cmp : K → K → Ordering) where
   -- a written value leaves the keys
-  pub rise-set_value : (test : K → Bool) (value : V) (rows : List (K × V)) → RowsRise cmp rows → RowsRise cmp (set_value test rows value)
+  pub rise-set_value : (test : K → Bool) (value : V) (rows : List (K × V)) → SortedByKey cmp rows → SortedByKey cmp (set_value test rows value)
   rise-set_value test value rows rise = subst (IsStrictlySortedBy cmp) (sym (keys-set_value test rows value)) rise
 
   IsBelow-remove_entry : (low : K) (test : K → Bool) (rows : List (K × V)) → IsBelow cmp low rows → IsBelow cmp low (remove_entry test rows)
@@ -103,11 +103,11 @@ module _ {K V : Type 0} (cmp : K → K → Ordering) where
       go false further = (below.0, further)
 
   -- rows that rise without one of them
-  pub rise-remove_entry : (test : K → Bool) (rows : List (K × V)) → RowsRise cmp rows → RowsRise cmp (remove_entry test rows)
+  pub rise-remove_entry : (test : K → Bool) (rows : List (K × V)) → SortedByKey cmp rows → SortedByKey cmp (remove_entry test rows)
   rise-remove_entry test [] rise = rise
   rise-remove_entry test (row ∷ rows) rise = go (test row.0) (rise-remove_entry test rows (rise_tail cmp row rows rise))
     where
-      go : (b : Bool) → RowsRise cmp (remove_entry test rows) → RowsRise cmp (cond b rows (row ∷ remove_entry test rows))
+      go : (b : Bool) → SortedByKey cmp (remove_entry test rows) → SortedByKey cmp (cond b rows (row ∷ remove_entry test rows))
       go true further = rise_tail cmp row rows rise
       go false further = rise-cons cmp row (remove_entry test rows) (IsBelow-remove_entry row.0 test rows (rise_head cmp row rows rise)) further
 
@@ -121,11 +121,11 @@ module _ {K V W : Type 0} (cmp : K → K → Ordering) (f : K × V → Option W)
       go (Some w) further = (below.0, further)
 
   -- rows made of rows that rise, each of its own key
-  pub rise-sift : (rows : List (K × V)) → RowsRise cmp rows → RowsRise cmp (sift f rows)
+  pub rise-sift : (rows : List (K × V)) → SortedByKey cmp rows → SortedByKey cmp (sift f rows)
   rise-sift [] rise = rise
   rise-sift (row ∷ rows) rise = go (f row) (rise-sift rows (rise_tail cmp row rows rise))
     where
-      go : (o : Option W) → RowsRise cmp (sift f rows) → RowsRise cmp (cons_option (option_map (λ w. (row.0, w)) o) (sift f rows))
+      go : (o : Option W) → SortedByKey cmp (sift f rows) → SortedByKey cmp (cons_option (option_map (λ w. (row.0, w)) o) (sift f rows))
       go None further = further
       go (Some w) further = rise-cons cmp (row.0, w) (sift f rows) (IsBelow-sift row.0 rows (rise_head cmp row rows rise)) further
 
@@ -137,7 +137,7 @@ module _ {K V : Type 0} (cmp : K → K → Ordering) where
   IsBelow-items_where_true low (false ∷ bs) (row ∷ rows) below = IsBelow-items_where_true low bs rows below.1
 
   -- some of the rows that rise
-  pub rise-items_where_true : (bs : List Bool) (rows : List (K × V)) → RowsRise cmp rows → RowsRise cmp (items_where_true bs rows)
+  pub rise-items_where_true : (bs : List Bool) (rows : List (K × V)) → SortedByKey cmp rows → SortedByKey cmp (items_where_true bs rows)
   rise-items_where_true [] rows rise = rise-nil cmp
   rise-items_where_true (b ∷ bs) [] rise = rise-nil cmp
   rise-items_where_true (true ∷ bs) (row ∷ rows) rise =
@@ -152,10 +152,10 @@ module _ {K V : Type 0} (cmp : K → K → Ordering) where
       go true further = (below.0, further)
       go false further = further
 
-  pub rise-filter : (test : K × V → Bool) (rows : List (K × V)) → RowsRise cmp rows → RowsRise cmp (filter test rows)
+  pub rise-filter : (test : K × V → Bool) (rows : List (K × V)) → SortedByKey cmp rows → SortedByKey cmp (filter test rows)
   rise-filter test [] rise = rise
   rise-filter test (row ∷ rows) rise = go (test row) (rise-filter test rows (rise_tail cmp row rows rise))
     where
-      go : (b : Bool) → RowsRise cmp (filter test rows) → RowsRise cmp (cond b (row ∷ filter test rows) (filter test rows))
+      go : (b : Bool) → SortedByKey cmp (filter test rows) → SortedByKey cmp (cond b (row ∷ filter test rows) (filter test rows))
       go true further = rise-cons cmp row (filter test rows) (IsBelow-filter row.0 test rows (rise_head cmp row rows rise)) further
       go false further = further

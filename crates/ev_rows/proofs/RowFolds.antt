@@ -4,14 +4,14 @@ use Rattle.std.specs.Option.{option_map_or}
 use Rattle.std.specs.BTreeMap.{is_at}
 use Rattle.std.proofs.lemmas.Grind.{fold-append}
 use Rattle.ev_rows.specs.KeyOrder.{KeyOrder}
-use Rattle.ev_rows.specs.Rows.{RowsRise, row_at}
+use Rattle.ev_rows.specs.Rows.{SortedByKey, row_at}
 use Rattle.ev_rows.proofs.RiseLemmas.{rise_tail}
 use Rattle.ev_rows.proofs.RowLemmas.{at_same, row_at_below}
 
 module _ {K V E C : Type 0} {cmp : K → K → Ordering} (order : KeyOrder cmp) (step : C → E → C) (make : K × V → List E) (q : K)
     (quiet : (row : K × V) (c : C) → is_at (cmp q) row.0 ≡ false → fold step c (make row) ≡ c) where
   -- what is made of rows changes a cell as what is made of its own row does
-  pub fold-flat_map_at : (rows : List (K × V)) → RowsRise cmp rows → (c : C)
+  pub fold-flat_map_at : (rows : List (K × V)) → SortedByKey cmp rows → (c : C)
       → fold step c (flat_map make rows) ≡ option_map_or (λ v. fold step c (make (q, v))) (row_at cmp rows q) c
   fold-flat_map_at [] rise c = refl
   fold-flat_map_at (row ∷ rows) rise c =
@@ -32,7 +32,7 @@ module _ {K V E C : Type 0} {cmp : K → K → Ordering} (order : KeyOrder cmp) 
 module _ {K W E C : Type 0} {cmp : K → K → Ordering} (order : KeyOrder cmp) (step : C → E → C) (make : K × W → E) (act : W → C → C) (q : K)
     (acts : (row : K × W) (c : C) → step c (make row) ≡ cond (is_at (cmp q) row.0) (act row.1 c) c) where
   -- one step for each row does what the step for the row of the key does
-  pub fold-each : (rows : List (K × W)) → RowsRise cmp rows → (c : C) → fold step c (map make rows) ≡ option_map_or (λ v. act v c) (row_at cmp rows q) c
+  pub fold-each : (rows : List (K × W)) → SortedByKey cmp rows → (c : C) → fold step c (map make rows) ≡ option_map_or (λ v. act v c) (row_at cmp rows q) c
   fold-each [] rise c = refl
   fold-each (row ∷ rows) rise c = ap (λ d. fold step d (map make rows)) (acts row c) ∙ go (is_at (cmp q) row.0) refl (λ d. fold-each rows (rise_tail cmp row rows rise) d)
     where

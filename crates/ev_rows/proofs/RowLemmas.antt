@@ -9,7 +9,7 @@ use Rattle.std.proofs.lemmas.Map.{lookup-remove_entry, lookup-set_value}
 use Rattle.std.proofs.lemmas.Map.Keys.{IsDistinct-from_sorted}
 use Rattle.std.proofs.lemmas.Option.{same_Some}
 use Rattle.ev_rows.specs.KeyOrder.{KeyOrder}
-use Rattle.ev_rows.specs.Rows.{RowsRise, keys_of, row_at, with_rows, sift, only_if, made_of, one_row, AgreeBut}
+use Rattle.ev_rows.specs.Rows.{SortedByKey, keys_of, row_at, with_rows, sift, only_if, made_of, one_row, AgreeBut}
 use Rattle.ev_rows.proofs.RiseLemmas.{IsBelow-further, IsBelow-sift, rise-nil, rise-cons, rise_head, rise_tail, below-above}
 use Rattle.ev_rows.proofs.PlaceLemmas.{lookup-below}
 
@@ -57,7 +57,7 @@ module _ {K V : Type 0} {cmp : K → K → Ordering} (order : KeyOrder cmp) wher
           (λ at. ap (λ k. is_eq (cmp k row.0)) (at_same order q key at) ∙ ap is_eq is) further
 
   -- the row of a key after new rows were put, one after another
-  pub row_at-with_rows : (rows new : List (K × V)) (q : K) → RowsRise cmp new
+  pub row_at-with_rows : (rows new : List (K × V)) (q : K) → SortedByKey cmp new
       → row_at cmp (with_rows cmp rows new) q ≡ (if is_some (row_at cmp new q) then row_at cmp new q else row_at cmp rows q)
   row_at-with_rows rows [] q rise = refl
   row_at-with_rows rows (row ∷ new) q rise = row_at-with_rows (insert_entry cmp rows row.0 row.1) new q (rise_tail cmp row new rise) ∙ go (is_at (cmp q) row.0) refl
@@ -71,7 +71,7 @@ module _ {K V : Type 0} {cmp : K → K → Ordering} (order : KeyOrder cmp) wher
       go false off = rw (row_at-insert_entry rows row.0 row.1 q, off) refl
 
   -- the row of a key after a drop
-  pub row_at-remove_entry : (rows : List (K × V)) (key q : K) → RowsRise cmp rows
+  pub row_at-remove_entry : (rows : List (K × V)) (key q : K) → SortedByKey cmp rows
       → row_at cmp (remove_entry (is_at (cmp key)) rows) q ≡ (if is_at (cmp q) key then None else row_at cmp rows q)
   row_at-remove_entry rows key q rise =
       let laws = eq_by_cmp_equiv order.total in
@@ -95,12 +95,12 @@ module _ {K V : Type 0} {cmp : K → K → Ordering} (order : KeyOrder cmp) wher
   row_at_tail row rows q off = rw off refl
 
   -- no later row has the key of the first
-  pub row_at_below : (row : K × V) (rows : List (K × V)) → RowsRise cmp (row ∷ rows) → row_at cmp rows row.0 ≡ None
+  pub row_at_below : (row : K × V) (rows : List (K × V)) → SortedByKey cmp (row ∷ rows) → row_at cmp rows row.0 ≡ None
   row_at_below row rows rise = lookup-below order.total row.0 rows (rise_head cmp row rows rise)
 
 module _ {K V W : Type 0} {cmp : K → K → Ordering} (order : KeyOrder cmp) (f : K × V → Option W) where
   -- the row of a key after each row made one of its own key
-  pub row_at-sift : (rows : List (K × V)) (q : K) → RowsRise cmp rows → row_at cmp (sift f rows) q ≡ option_and_then (λ v. f (q, v)) (row_at cmp rows q)
+  pub row_at-sift : (rows : List (K × V)) (q : K) → SortedByKey cmp rows → row_at cmp (sift f rows) q ≡ option_and_then (λ v. f (q, v)) (row_at cmp rows q)
   row_at-sift [] q rise = refl
   row_at-sift (row ∷ rows) q rise = go (is_at (cmp q) row.0) refl (row_at-sift rows q (rise_tail cmp row rows rise))
     where
@@ -135,11 +135,11 @@ filter_is_sift test (row ∷ rows) = go (test row) (filter_is_sift test rows)
 
 module _ {K V : Type 0} {cmp : K → K → Ordering} (order : KeyOrder cmp) where
   -- the row of a key after a filter, and after one by the keys
-  pub row_at-filter : (test : K × V → Bool) (rows : List (K × V)) (q : K) → RowsRise cmp rows
+  pub row_at-filter : (test : K × V → Bool) (rows : List (K × V)) (q : K) → SortedByKey cmp rows
       → row_at cmp (filter test rows) q ≡ option_and_then (λ v. only_if (test (q, v)) (Some v)) (row_at cmp rows q)
   row_at-filter test rows q rise = ap (λ l. row_at cmp l q) (filter_is_sift test rows) ∙ row_at-sift order (λ row. only_if (test row) (Some row.1)) rows q rise
 
-  pub row_at-filter_keys : (test : K → Bool) (rows : List (K × V)) (q : K) → RowsRise cmp rows
+  pub row_at-filter_keys : (test : K → Bool) (rows : List (K × V)) (q : K) → SortedByKey cmp rows
       → row_at cmp (filter (λ row. test row.0) rows) q ≡ only_if (test q) (row_at cmp rows q)
   row_at-filter_keys test rows q rise = row_at-filter (λ row. test row.0) rows q rise ∙ go (row_at cmp rows q)
     where
@@ -148,10 +148,10 @@ module _ {K V : Type 0} {cmp : K → K → Ordering} (order : KeyOrder cmp) wher
       go (Some v) = refl
 
   -- of two lists with the same rows, the first keys are the same, and so are the rows after them
-  same_heads : (x y : K × V) (xs ys : List (K × V)) → RowsRise cmp (x ∷ xs) → RowsRise cmp (y ∷ ys) → ((q : K) → row_at cmp (x ∷ xs) q ≡ row_at cmp (y ∷ ys) q) → x.0 ≡ y.0
+  same_heads : (x y : K × V) (xs ys : List (K × V)) → SortedByKey cmp (x ∷ xs) → SortedByKey cmp (y ∷ ys) → ((q : K) → row_at cmp (x ∷ xs) q ≡ row_at cmp (y ∷ ys) q) → x.0 ≡ y.0
   same_heads x y xs ys xs_rise ys_rise same = go (cmp x.0 y.0) refl
     where
-      absent : (low : K) (row : K × V) (rows : List (K × V)) → RowsRise cmp (row ∷ rows) → cmp low row.0 ≡ Less → row_at cmp (row ∷ rows) low ≡ None
+      absent : (low : K) (row : K × V) (rows : List (K × V)) → SortedByKey cmp (row ∷ rows) → cmp low row.0 ≡ Less → row_at cmp (row ∷ rows) low ≡ None
       absent low row rows rise less = lookup-below order.total low (row ∷ rows) (less, IsBelow-further order.total low row.0 rows less (rise_head cmp row rows rise))
 
       go : (o : Ordering) → cmp x.0 y.0 ≡ o → x.0 ≡ y.0
@@ -159,7 +159,7 @@ module _ {K V : Type 0} {cmp : K → K → Ordering} (order : KeyOrder cmp) wher
       go Equal is = order.exact x.0 y.0 is
       go Greater is = let clash = sym (row_at_head order y ys) ∙ sym (same y.0) ∙ absent y.0 x xs xs_rise (below-above order.total x.0 y.0 is) in cc
 
-  same_tails : (x y : K × V) (xs ys : List (K × V)) → RowsRise cmp (x ∷ xs) → RowsRise cmp (y ∷ ys) → ((q : K) → row_at cmp (x ∷ xs) q ≡ row_at cmp (y ∷ ys) q) → x.0 ≡ y.0
+  same_tails : (x y : K × V) (xs ys : List (K × V)) → SortedByKey cmp (x ∷ xs) → SortedByKey cmp (y ∷ ys) → ((q : K) → row_at cmp (x ∷ xs) q ≡ row_at cmp (y ∷ ys) q) → x.0 ≡ y.0
       → (q : K) → row_at cmp xs q ≡ row_at cmp ys q
   same_tails x y xs ys xs_rise ys_rise same heads q = go (is_at (cmp q) x.0) refl
     where
@@ -170,7 +170,7 @@ module _ {K V : Type 0} {cmp : K → K → Ordering} (order : KeyOrder cmp) wher
       go false off = sym (row_at_tail order x xs q off) ∙ same q ∙ row_at_tail order y ys q (ap (is_at (cmp q)) (sym heads) ∙ off)
 
   -- lists that rise and have the same row at every key are equal
-  pub same_rows : (xs ys : List (K × V)) → RowsRise cmp xs → RowsRise cmp ys → ((q : K) → row_at cmp xs q ≡ row_at cmp ys q) → xs ≡ ys
+  pub same_rows : (xs ys : List (K × V)) → SortedByKey cmp xs → SortedByKey cmp ys → ((q : K) → row_at cmp xs q ≡ row_at cmp ys q) → xs ≡ ys
   same_rows [] [] xs_rise ys_rise same = refl
   same_rows [] (y ∷ ys) xs_rise ys_rise same = let clash = same y.0 ∙ row_at_head order y ys in cc
   same_rows (x ∷ xs) [] xs_rise ys_rise same = let clash = sym (same x.0) ∙ row_at_head order x xs in cc
@@ -181,7 +181,7 @@ module _ {K V : Type 0} {cmp : K → K → Ordering} (order : KeyOrder cmp) wher
       λ i. (heads i, values i) ∷ rest i
 
   -- one row, or none
-  pub rise-one_row : (key : K) (value : Option V) → RowsRise cmp (one_row key value)
+  pub rise-one_row : (key : K) (value : Option V) → SortedByKey cmp (one_row key value)
   rise-one_row key None = rise-nil cmp
   rise-one_row key (Some v) = rise-cons cmp (key, v) [] tt (rise-nil cmp)
 
@@ -190,14 +190,14 @@ module _ {K V : Type 0} {cmp : K → K → Ordering} (order : KeyOrder cmp) wher
   row_at-one_row key (Some v) q = refl
 
   -- a list with no row but this key's
-  pub only_at : (rows : List (K × V)) (key : K) → RowsRise cmp rows → ((q : K) → is_at (cmp q) key ≡ false → row_at cmp rows q ≡ None) → rows ≡ one_row key (row_at cmp rows key)
+  pub only_at : (rows : List (K × V)) (key : K) → SortedByKey cmp rows → ((q : K) → is_at (cmp q) key ≡ false → row_at cmp rows q ≡ None) → rows ≡ one_row key (row_at cmp rows key)
   only_at rows key rise others = same_rows rows (one_row key (row_at cmp rows key)) rise (rise-one_row key (row_at cmp rows key)) (λ q. go q (is_at (cmp q) key) refl)
     where
       go : (q : K) (b : Bool) → is_at (cmp q) key ≡ b → row_at cmp rows q ≡ row_at cmp (one_row key (row_at cmp rows key)) q
       go q true at = rw (row_at-one_row key (row_at cmp rows key) q, at) (ap (row_at cmp rows) (at_same order q key at))
       go q false off = rw (row_at-one_row key (row_at cmp rows key) q, off) (others q off)
 
-module _ {K V : Type 0} {cmp : K → K → Ordering} (order : KeyOrder cmp) (row : K × V) (rows : List (K × V)) (rise : RowsRise cmp (row ∷ rows)) where
+module _ {K V : Type 0} {cmp : K → K → Ordering} (order : KeyOrder cmp) (row : K × V) (rows : List (K × V)) (rise : SortedByKey cmp (row ∷ rows)) where
   -- the key of a later row isn't the first, and has the same row in the whole list
   pub later_off : (q : K) (v : V) → row_at cmp rows q ≡ Some v → is_at (cmp q) row.0 ≡ false
   later_off q v is = go (is_at (cmp q) row.0) refl
@@ -211,14 +211,14 @@ module _ {K V : Type 0} {cmp : K → K → Ordering} (order : KeyOrder cmp) (row
 
 module _ {K V E : Type 0} {cmp : K → K → Ordering} (order : KeyOrder cmp) (f : K × V → List E) where
   -- what is made of rows of which each gives nothing
-  pub flat_map_quiet : (rows : List (K × V)) → RowsRise cmp rows → ((q : K) (v : V) → row_at cmp rows q ≡ Some v → f (q, v) ≡ []) → flat_map f rows ≡ []
+  pub flat_map_quiet : (rows : List (K × V)) → SortedByKey cmp rows → ((q : K) (v : V) → row_at cmp rows q ≡ Some v → f (q, v) ≡ []) → flat_map f rows ≡ []
   flat_map_quiet [] rise quiet = refl
   flat_map_quiet (row ∷ rows) rise quiet =
       let further = flat_map_quiet rows (rise_tail cmp row rows rise) (λ q v is. quiet q v (later_row order row rows rise q v is)) in
       rw (quiet row.0 row.1 (row_at_head order row rows)) further
 
   -- what is made of rows of which each but this key's gives nothing
-  pub flat_map_at : (rows : List (K × V)) (key : K) → RowsRise cmp rows → ((q : K) (v : V) → is_at (cmp q) key ≡ false → row_at cmp rows q ≡ Some v → f (q, v) ≡ [])
+  pub flat_map_at : (rows : List (K × V)) (key : K) → SortedByKey cmp rows → ((q : K) (v : V) → is_at (cmp q) key ≡ false → row_at cmp rows q ≡ Some v → f (q, v) ≡ [])
       → flat_map f rows ≡ made_of (λ v. f (key, v)) (row_at cmp rows key)
   flat_map_at [] key rise quiet = refl
   flat_map_at (row ∷ rows) key rise quiet = go (is_at (cmp key) row.0) refl (flat_map_at rows key (rise_tail cmp row rows rise) (λ q v off is. quiet q v off (later_row order row rows rise q v is)))
@@ -238,14 +238,14 @@ module _ {K V : Type 0} {cmp : K → K → Ordering} (order : KeyOrder cmp) wher
   pub AgreeBut-insert_entry : (rows : List (K × V)) (key : K) (value : V) → AgreeBut cmp key rows (insert_entry cmp rows key value)
   AgreeBut-insert_entry rows key value q off = row_at-insert_entry order rows key value q ∙ rw off refl
 
-  pub AgreeBut-remove_entry : (rows : List (K × V)) (key : K) → RowsRise cmp rows → AgreeBut cmp key rows (remove_entry (is_at (cmp key)) rows)
+  pub AgreeBut-remove_entry : (rows : List (K × V)) (key : K) → SortedByKey cmp rows → AgreeBut cmp key rows (remove_entry (is_at (cmp key)) rows)
   AgreeBut-remove_entry rows key rise q off = row_at-remove_entry order rows key q rise ∙ rw off refl
 
   pub AgreeBut-set_value : (rows : List (K × V)) (key : K) (value : V) → IsSome (row_at cmp rows key) → AgreeBut cmp key rows (set_value (is_at (cmp key)) rows value)
   AgreeBut-set_value rows key value some q off = row_at-set_value order rows key value q some ∙ rw off refl
 
   -- lists that agree at every key but one, and there too, are equal
-  pub AgreeBut-same : (before after : List (K × V)) (key : K) → RowsRise cmp before → RowsRise cmp after → AgreeBut cmp key before after → row_at cmp after key ≡ row_at cmp before key → after ≡ before
+  pub AgreeBut-same : (before after : List (K × V)) (key : K) → SortedByKey cmp before → SortedByKey cmp after → AgreeBut cmp key before after → row_at cmp after key ≡ row_at cmp before key → after ≡ before
   AgreeBut-same before after key before_rise after_rise agree same = same_rows order after before after_rise before_rise (λ q. go q (is_at (cmp q) key) refl)
     where
       go : (q : K) (b : Bool) → is_at (cmp q) key ≡ b → row_at cmp after q ≡ row_at cmp before q
@@ -254,7 +254,7 @@ module _ {K V : Type 0} {cmp : K → K → Ordering} (order : KeyOrder cmp) wher
 
 module _ {K V W : Type 0} {cmp : K → K → Ordering} (order : KeyOrder cmp) (f g : K × V → Option W) where
   -- rows made of lists that agree at every key but one, by functions that do so too
-  pub AgreeBut-sift : (before after : List (K × V)) (key : K) → RowsRise cmp before → RowsRise cmp after → AgreeBut cmp key before after
+  pub AgreeBut-sift : (before after : List (K × V)) (key : K) → SortedByKey cmp before → SortedByKey cmp after → AgreeBut cmp key before after
       → ((q : K) (v : V) → is_at (cmp q) key ≡ false → g (q, v) ≡ f (q, v)) → AgreeBut cmp key (sift f before) (sift g after)
   AgreeBut-sift before after key before_rise after_rise agree same q off =
       row_at-sift order g after q after_rise ∙ ap (option_and_then (λ v. g (q, v))) (agree q off) ∙ go (row_at cmp before q) ∙ sym (row_at-sift order f before q before_rise)

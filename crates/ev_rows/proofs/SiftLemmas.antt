@@ -2,14 +2,14 @@
 use Rattle.std.proofs.Common.{◌≡◌, List, [], ◌∷◌, ◌++◌, map, flat_map, Ordering, Option, None, Some, option_map, option_and_then, sym, ap, refl, ◌∙◌}
 use Rattle.std.specs.List.{cons_option}
 use Rattle.ev_rows.specs.KeyOrder.{KeyOrder}
-use Rattle.ev_rows.specs.Rows.{RowsRise, row_at, sift, fresh, both_of, made_of, gained, kept}
+use Rattle.ev_rows.specs.Rows.{SortedByKey, row_at, sift, fresh, both_of, made_of, gained, kept}
 use Rattle.ev_rows.proofs.RiseLemmas.{rise-sift}
 use Rattle.ev_rows.proofs.RowLemmas.{row_at-sift, same_rows}
 use Rattle.ev_rows.proofs.ChangeLemmas.{row_at-gained, row_at-kept, rise-gained, rise-kept}
 
 module _ {K V W X : Type 0} {cmp : K → K → Ordering} (order : KeyOrder cmp) (f : K × V → Option W) (g : K × V → Option X) where
   -- what one list made of a table gains over another, row by row
-  pub gained_sifts : (rows : List (K × V)) → RowsRise cmp rows → gained cmp (sift f rows) (sift g rows) ≡ sift (λ row. fresh (f row) (g row)) rows
+  pub gained_sifts : (rows : List (K × V)) → SortedByKey cmp rows → gained cmp (sift f rows) (sift g rows) ≡ sift (λ row. fresh (f row) (g row)) rows
   gained_sifts rows rise =
       same_rows order (gained cmp (sift f rows) (sift g rows)) (sift (λ row. fresh (f row) (g row)) rows)
       (rise-gained cmp (sift f rows) (sift g rows) (rise-sift cmp g rows rise)) (rise-sift cmp (λ row. fresh (f row) (g row)) rows rise)
@@ -20,7 +20,7 @@ module _ {K V W X : Type 0} {cmp : K → K → Ordering} (order : KeyOrder cmp) 
       go q (Some v) = refl
 
   -- and what it keeps
-  pub kept_sifts : (rows : List (K × V)) → RowsRise cmp rows → kept cmp (sift f rows) (sift g rows) ≡ sift (λ row. both_of (f row) (g row)) rows
+  pub kept_sifts : (rows : List (K × V)) → SortedByKey cmp rows → kept cmp (sift f rows) (sift g rows) ≡ sift (λ row. both_of (f row) (g row)) rows
   kept_sifts rows rise =
       same_rows order (kept cmp (sift f rows) (sift g rows)) (sift (λ row. both_of (f row) (g row)) rows)
       (rise-kept cmp (sift f rows) (sift g rows) (rise-sift cmp g rows rise)) (rise-sift cmp (λ row. both_of (f row) (g row)) rows rise)
@@ -61,7 +61,7 @@ module _ {K V W E : Type 0} (make : K × W → List E) (f : K × V → Option W)
 
 module _ {K V W X : Type 0} {cmp : K → K → Ordering} (order : KeyOrder cmp) (f : K → V → W → Option X) where
   -- a pass over one list that looks each key up in another may go over the other one
-  pub sift_other : (rows : List (K × V)) (others : List (K × W)) → RowsRise cmp rows → RowsRise cmp others
+  pub sift_other : (rows : List (K × V)) (others : List (K × W)) → SortedByKey cmp rows → SortedByKey cmp others
       → sift (λ row. option_and_then (λ w. f row.0 row.1 w) (row_at cmp others row.0)) rows ≡ sift (λ other. option_and_then (λ v. f other.0 v other.1) (row_at cmp rows other.0)) others
   sift_other rows others rise others_rise =
       let one = λ (row : K × V). option_and_then (λ w. f row.0 row.1 w) (row_at cmp others row.0) in

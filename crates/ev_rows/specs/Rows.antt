@@ -1,4 +1,4 @@
--- Lists of rows, a key and a value each, that rise by key.
+-- Lists of rows, a key and a value each, that are sorted by key.
 use Rattle.std.specs.Prelude.{◌≡◌, ℕ, Bool, false, ◌||◌, if◌then◌else◌, List, [], ◌∷◌, ◌++◌, flat_map, Option, None, Some, is_none, option_map}
 use Rattle.std.specs.declared.cmp.Ordering.{Ordering}
 use Rattle.std.specs.Ordering.{is_lt, is_gt}
@@ -51,8 +51,8 @@ sift f rows = filter_map (λ row. option_map (λ w. (row.0, w)) (f row)) rows
 
 module _ {K : Type 0} (cmp : K → K → Ordering) where
   -- the keys rise, so that none comes twice
-  abbrev pub RowsRise : {V : Type 0} → List (K × V) → Type 0
-  RowsRise rows = IsStrictlySortedBy cmp (keys_of rows)
+  abbrev pub SortedByKey : {V : Type 0} → List (K × V) → Type 0
+  SortedByKey rows = IsStrictlySortedBy cmp (keys_of rows)
 
   -- the value in the row of the key, if there is one
   abbrev pub row_at : {V : Type 0} → List (K × V) → K → Option V

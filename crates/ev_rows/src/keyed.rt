@@ -1,3 +1,5 @@
+//! Rows sorted by key, with room that is made first.
+
 ghost use Rattle.std.specs.Prelude.{◌≡◌, Bool, ◌-◌, ◌≤◌, ◌+◌, ◌↔◌, [], length, filter, if◌then◌else◌, is_some, IsTrue, IsNone, IsOk, OnOk, option_copied, vec_len, vec_capacity};
 ghost use Rattle.std.specs.Option.{option_copied_mut};
 ghost use Rattle.std.specs.Borrow.{sem};
@@ -7,7 +9,7 @@ ghost use Rattle.std.specs.List.Retain.{IsFiltered};
 ghost use Rattle.std.specs.List.Sorted.{IsSearchInRange};
 ghost use Rattle.std.specs.Map.{remove_entry};
 ghost use Rattle.std.specs.BTreeMap.{insert_entry, is_at};
-ghost use Rattle.ev_rows.specs.Rows.{RowsRise, row_at, with_rows, is_outside};
+ghost use Rattle.ev_rows.specs.Rows.{SortedByKey, row_at, with_rows, is_outside};
 ghost use Rattle.ev_rows.specs.Lent.{lends_value, lends_if_there};
 ghost use Rattle.ev_rows.specs.Place.{IsFoundAt, IsPlace};
 
@@ -17,14 +19,14 @@ use std::alloc::{AllocError, Global};
 use std::marker::Model;
 use std::mem;
 
-/// Whether the rows rise by key, as `Keyed::from_vec` and `merge` ask.
+/// Whether the rows are sorted by key, as `Keyed::from_vec` and `merge` ask.
 pub fn rows_rise<K: Ord, V>(rows: &[(K, V)]) -> bool
-    ensures { IsTrue result ↔ RowsRise K.cmp rows.now }
+    ensures { IsTrue result ↔ SortedByKey K.cmp rows.now }
 {
     rows.is_sorted_by(|a, b| a.0.cmp(&b.0).is_lt())
 }
 
-/// Rows of a key and a value that rise by key, in one block of memory.
+/// Rows of a key and a value that are sorted by key, in one block of memory.
 ///
 /// `reserve` makes room for more rows. Beside it only `clone` takes memory.
 #[derive(Debug, Drop)]
@@ -34,14 +36,14 @@ pub struct Keyed<K: Ord, V> {
 
 impl<K: Ord, V> Model for Keyed<K, V> {
     ghost use Rattle.std.specs.Prelude.{◌-◌, vec_len, vec_capacity};
-    ghost use Rattle.ev_rows.specs.Rows.{Table, RowsRise};
+    ghost use Rattle.ev_rows.specs.Rows.{Table, SortedByKey};
 
     ghost Value = { Table K V };
 
     ghost view = { λ it.
         record { rows = it.rows.items; spare = vec_capacity it.rows - vec_len it.rows } };
 
-    ghost invariant = { λ it. RowsRise K.cmp it.rows.items };
+    ghost invariant = { λ it. SortedByKey K.cmp it.rows.items };
 }
 
 impl<K: Ord, V> Keyed<K, V> {
@@ -55,7 +57,7 @@ impl<K: Ord, V> Keyed<K, V> {
     }
 
     pub fn from_vec(rows: Vec<(K, V)>) -> Self
-        requires { RowsRise K.cmp rows.items }
+        requires { SortedByKey K.cmp rows.items }
         ensures rows { result.rows ≡ rows.items }
         ensures room { result.spare ≡ vec_capacity rows - vec_len rows }
     {
@@ -64,7 +66,7 @@ impl<K: Ord, V> Keyed<K, V> {
 
     pub fn into_vec(self) -> Vec<(K, V)>
         ensures rows { result.items ≡ self.rows }
-        ensures rise { RowsRise K.cmp self.rows }
+        ensures rise { SortedByKey K.cmp self.rows }
         ensures room { vec_capacity result - vec_len result ≡ self.spare }
     {
         let Keyed { rows } = self;
@@ -73,7 +75,7 @@ impl<K: Ord, V> Keyed<K, V> {
 
     pub fn rows(&self) -> &[(K, V)]
         ensures all { result.now ≡ self.now.rows }
-        ensures rise { RowsRise K.cmp self.now.rows }
+        ensures rise { SortedByKey K.cmp self.now.rows }
     {
         &self.rows
     }
@@ -132,7 +134,7 @@ impl<K: Ord, V> Keyed<K, V> {
     fn place(&self, key: &K) -> Result<usize, usize>
         ensures place { IsPlace (K.cmp key.now) self.now.rows result }
         ensures within { IsSearchInRange result (length self.now.rows) }
-        ensures rise { RowsRise K.cmp self.now.rows }
+        ensures rise { SortedByKey K.cmp self.now.rows }
     {
         self.rows.binary_search_by(|row| row.0.cmp(key))
     }
@@ -143,7 +145,7 @@ impl<K: Ord, V> Keyed<K, V> {
         ensures within { result.1 ≤ length self.now.rows }
         ensures outside { filter (λ row. is_outside K.cmp low.now high.now row.0) self.now.rows
             ≡ remove_range self.now.rows result.0 result.1 }
-        ensures rise { RowsRise K.cmp self.now.rows }
+        ensures rise { SortedByKey K.cmp self.now.rows }
     {
         let start = self.rows.partition_point(|row| row.0.cmp(low).is_lt());
         let end = self.rows.partition_point(|row| row.0.cmp(high).is_le());
@@ -190,7 +192,7 @@ impl<K: Ord + Drop, V: Drop> Keyed<K, V> {
 
     /// Puts each of the new rows, all in one pass.
     pub fn merge(&mut self, new_rows: Vec<(K, V)>)
-        requires rise { RowsRise K.cmp new_rows.items }
+        requires rise { SortedByKey K.cmp new_rows.items }
         requires room { vec_len new_rows ≤ self.old.spare }
         ensures rows { self.new.rows ≡ with_rows K.cmp self.old.rows new_rows.items }
         ensures room { self.old.spare ≤ self.new.spare + vec_len new_rows }

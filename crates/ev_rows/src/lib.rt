@@ -1,4 +1,4 @@
-//! Lists of rows, a key and a value each, that rise by key.
+//! Lists of rows, a key and a value each, that are sorted by key.
 #![tactic(auto)]
 
 mod keyed;

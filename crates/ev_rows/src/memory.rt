@@ -1,3 +1,5 @@
+//! That memory was refused.
+
 use std::alloc::{AllocError, AllocFailed};
 use std::fmt;
 

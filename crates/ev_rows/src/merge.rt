@@ -1,6 +1,8 @@
+//! The merge of many new rows among sorted ones.
+
 ghost use Rattle.std.specs.Prelude.{◌≡◌, ◌+◌, ◌-◌, ◌<◌, ◌≤◌, slice_index_or, vec_len, vec_capacity};
 ghost use Rattle.std.specs.VecDeque.{deque_len};
-ghost use Rattle.ev_rows.specs.Rows.{RowsRise, with_rows};
+ghost use Rattle.ev_rows.specs.Rows.{SortedByKey, with_rows};
 
 use std::cmp::Ordering;
 use std::collections::VecDeque;
@@ -10,8 +12,8 @@ use std::collections::VecDeque;
 /// The block of `rows` is a ring meanwhile. At its back are the rows that are left to pass, and each goes to its
 /// front, where the merged rows gather.
 pub fn merged<K: Ord + Drop, V: Drop>(rows: Vec<(K, V)>, mut new_rows: Vec<(K, V)>) -> Vec<(K, V)>
-    requires rise { RowsRise K.cmp rows.items }
-    requires new_rise { RowsRise K.cmp new_rows.items }
+    requires rise { SortedByKey K.cmp rows.items }
+    requires new_rise { SortedByKey K.cmp new_rows.items }
     requires room { vec_len rows + vec_len new_rows ≤ vec_capacity rows }
     ensures rows { result.items ≡ with_rows K.cmp rows.items new_rows.items }
     ensures len { vec_len result ≤ vec_len rows + vec_len new_rows }

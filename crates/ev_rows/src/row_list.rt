@@ -1,11 +1,13 @@
+//! Rows sorted by key, as a list and nothing else.
+
 ghost use Rattle.std.specs.Prelude.{◌≡◌, ◌↔◌, [], length, IsTrue, option_copied};
-ghost use Rattle.ev_rows.specs.Rows.{RowsRise, row_at};
+ghost use Rattle.ev_rows.specs.Rows.{SortedByKey, row_at};
 
 use crate::keyed::Keyed;
 use std::alloc::AllocError;
 use std::marker::Model;
 
-/// Rows of a key and a value that rise by key, as a list and nothing else.
+/// Rows of a key and a value that are sorted by key, as a list and nothing else.
 ///
 /// Where a `Keyed` also has room, two of these with the same rows are one value in a contract.
 #[derive(Debug, Drop)]
@@ -23,7 +25,7 @@ impl<K: Ord, V> Model for RowList<K, V> {
 
 impl<K: Ord, V> RowList<K, V> {
     pub fn from_vec(rows: Vec<(K, V)>) -> Self
-        requires { RowsRise K.cmp rows.items }
+        requires { SortedByKey K.cmp rows.items }
         ensures { result ≡ rows.items }
     {
         RowList {
@@ -33,7 +35,7 @@ impl<K: Ord, V> RowList<K, V> {
 
     pub fn into_vec(self) -> Vec<(K, V)>
         ensures rows { result.items ≡ self }
-        ensures rise { RowsRise K.cmp self }
+        ensures rise { SortedByKey K.cmp self }
     {
         let RowList { keyed } = self;
         keyed.into_vec()
@@ -41,7 +43,7 @@ impl<K: Ord, V> RowList<K, V> {
 
     pub fn rows(&self) -> &[(K, V)]
         ensures all { result.now ≡ self.now }
-        ensures rise { RowsRise K.cmp self.now }
+        ensures rise { SortedByKey K.cmp self.now }
     {
         self.keyed.rows()
     }

@@ -4,9 +4,9 @@ use Rattle.std.proofs.lemmas.Grind.{flat_map-append}
 use Rattle.std.proofs.lemmas.List.Sums.{fold-append}
 use Rattle.ev_base.specs.Orders.{user_order, stream_order, message_order, stream_user_order, reaction_order}
 use Rattle.ev_rows.specs.KeyOrder.{KeyOrder}
-use Rattle.ev_rows.specs.Rows.{RowsRise}
+use Rattle.ev_rows.specs.Rows.{SortedByKey}
 use Rattle.ev_types.specs.declared.event.Event.{Event}
-use Rattle.ev_types.specs.Sections.{Sections, SectionsRise}
+use Rattle.ev_types.specs.Sections.{Sections, SectionsSorted}
 use Rattle.ev_types.specs.Settling.{Settles}
 use Rattle.ev_types.specs.Writes.{Write, Rules, after_write, after_writes}
 use Rattle.ev_types.specs.EventWrites.{realm_after, user_rules, user_writes, stream_rules, stream_writes, subscription_rules, subscription_writes, subscriber_rules, subscriber_writes, message_rules, message_writes, reaction_rules, reaction_writes, starred_rules, starred_writes, unread_rules, unread_writes}
@@ -17,10 +17,10 @@ use Rattle.ev_types.proofs.FieldsSettle.{realm_settles, users_settle, streams_se
 
 -- the rows of a section go on rising
 pub rise-rows_applied : {K V F P : Type 0} (rules : Rules K V F P) (writes : Event → List (Write K V F P)) → KeyOrder rules.cmp
-    → (events : List Event) (rows : List (K × V)) → RowsRise rules.cmp rows → RowsRise rules.cmp (rows_applied rules writes events rows)
+    → (events : List Event) (rows : List (K × V)) → SortedByKey rules.cmp rows → SortedByKey rules.cmp (rows_applied rules writes events rows)
 rise-rows_applied rules writes order events rows rise = rise-after_writes rules order rows (flat_map writes events) rise
 
-pub rise-applied : (events : List Event) (view : Sections) → SectionsRise view → SectionsRise (applied events view)
+pub rise-applied : (events : List Event) (view : Sections) → SectionsSorted view → SectionsSorted (applied events view)
 rise-applied events view rise = record {
   realm_users = rise-rows_applied user_rules user_writes user_order events view.realm_users rise.realm_users;
   streams = rise-rows_applied stream_rules stream_writes stream_order events view.streams rise.streams;
@@ -34,11 +34,11 @@ rise-applied events view rise = record {
 
 -- and events applied to them again change nothing
 pub rows_applied-again : {K V F P : Type 0} (rules : Rules K V F P) (writes : Event → List (Write K V F P)) → KeyOrder rules.cmp → Settles (λ row field. rules.set field row)
-    → (events : List Event) (rows : List (K × V)) → RowsRise rules.cmp rows
+    → (events : List Event) (rows : List (K × V)) → SortedByKey rules.cmp rows
     → rows_applied rules writes events (rows_applied rules writes events rows) ≡ rows_applied rules writes events rows
 rows_applied-again rules writes order fields events rows rise = after_writes-again rules fields order rows (flat_map writes events) rise
 
-pub applied-again : (events : List Event) (view : Sections) → SectionsRise view → applied events (applied events view) ≡ applied events view
+pub applied-again : (events : List Event) (view : Sections) → SectionsSorted view → applied events (applied events view) ≡ applied events view
 applied-again events view rise = λ i. record {
   realm = fold-again realm_after realm_settles view.realm events i;
   realm_users = rows_applied-again user_rules user_writes user_order users_settle events view.realm_users rise.realm_users i;
@@ -72,5 +72,5 @@ applied-append before after view = λ i. record {
 }
 
 -- and so for all sections at once
-pub applied-overlap : (before after : List Event) (view : Sections) → SectionsRise view → applied (before ++ after) (applied before view) ≡ applied after (applied before view)
+pub applied-overlap : (before after : List Event) (view : Sections) → SectionsSorted view → applied (before ++ after) (applied before view) ≡ applied after (applied before view)
 applied-overlap before after view rise = applied-append before after (applied before view) ∙ ap (applied after) (applied-again before view rise)

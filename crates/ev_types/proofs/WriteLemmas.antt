@@ -3,7 +3,7 @@ use Rattle.std.proofs.Common.{◌≡◌, Bool, true, false, not, cond, List, [],
 use Rattle.std.specs.Option.{option_map_or}
 use Rattle.std.specs.BTreeMap.{insert_entry, is_at}
 use Rattle.ev_rows.specs.KeyOrder.{KeyOrder}
-use Rattle.ev_rows.specs.Rows.{RowsRise, row_at, only_if}
+use Rattle.ev_rows.specs.Rows.{SortedByKey, row_at, only_if}
 use Rattle.ev_rows.proofs.RiseLemmas.{rise-insert_entry, rise-remove_entry, rise-filter}
 use Rattle.ev_rows.proofs.RowLemmas.{at_same, row_at-insert_entry, row_at-remove_entry, row_at-filter_keys, same_rows}
 use Rattle.ev_types.specs.Settling.{Settles}
@@ -16,7 +16,7 @@ unless false old = refl
 
 module _ {K V F P : Type 0} (rules : Rules K V F P) (order : KeyOrder rules.cmp) where
   -- a write changes the row of each key by itself
-  row_at-after_write : (rows : List (K × V)) (write : Write K V F P) (q : K) → RowsRise rules.cmp rows
+  row_at-after_write : (rows : List (K × V)) (write : Write K V F P) (q : K) → SortedByKey rules.cmp rows
       → row_at rules.cmp (after_write rules rows write) q ≡ cell_after_write rules q (row_at rules.cmp rows q) write
   row_at-after_write rows (put key value) q rise = row_at-insert_entry order rows key value q
   row_at-after_write rows (drop_row key) q rise = row_at-remove_entry order rows key q rise
@@ -41,22 +41,22 @@ module _ {K V F P : Type 0} (rules : Rules K V F P) (order : KeyOrder rules.cmp)
           ∙ ap (λ at. cond at (Some (rules.set field old)) (row_at rules.cmp rows q)) missed
 
   -- and leaves the rows rising
-  rise-after_write : (rows : List (K × V)) (write : Write K V F P) → RowsRise rules.cmp rows → RowsRise rules.cmp (after_write rules rows write)
+  rise-after_write : (rows : List (K × V)) (write : Write K V F P) → SortedByKey rules.cmp rows → SortedByKey rules.cmp (after_write rules rows write)
   rise-after_write rows (put key value) rise = rise-insert_entry order.total key value rows rise
   rise-after_write rows (drop_row key) rise = rise-remove_entry rules.cmp (is_at (rules.cmp key)) rows rise
   rise-after_write rows (drop_under prefix) rise = rise-filter rules.cmp (λ row. not (rules.is_under prefix row.0)) rows rise
   rise-after_write rows (patch key field) rise = go (row_at rules.cmp rows key)
     where
-      go : (cell : Option V) → RowsRise rules.cmp (option_map_or (λ old. insert_entry rules.cmp rows key (rules.set field old)) cell rows)
+      go : (cell : Option V) → SortedByKey rules.cmp (option_map_or (λ old. insert_entry rules.cmp rows key (rules.set field old)) cell rows)
       go None = rise
       go (Some old) = rise-insert_entry order.total key (rules.set field old) rows rise
 
   -- so do several writes
-  pub rise-after_writes : (rows : List (K × V)) (writes : List (Write K V F P)) → RowsRise rules.cmp rows → RowsRise rules.cmp (after_writes rules rows writes)
+  pub rise-after_writes : (rows : List (K × V)) (writes : List (Write K V F P)) → SortedByKey rules.cmp rows → SortedByKey rules.cmp (after_writes rules rows writes)
   rise-after_writes rows [] rise = rise
   rise-after_writes rows (write ∷ writes) rise = rise-after_writes (after_write rules rows write) writes (rise-after_write rows write rise)
 
-  pub row_at-after_writes : (rows : List (K × V)) (writes : List (Write K V F P)) (q : K) → RowsRise rules.cmp rows
+  pub row_at-after_writes : (rows : List (K × V)) (writes : List (Write K V F P)) (q : K) → SortedByKey rules.cmp rows
       → row_at rules.cmp (after_writes rules rows writes) q ≡ cell_after rules q (row_at rules.cmp rows q) writes
   row_at-after_writes rows [] q rise = refl
   row_at-after_writes rows (write ∷ writes) q rise =
@@ -135,7 +135,7 @@ module _ {K V F P : Type 0} (rules : Rules K V F P) (fields : Settles (λ row fi
     cells_settle = record { again = cell_again; past = cell_past }
 
   -- the same writes done again leave what they left
-  pub after_writes-again : KeyOrder rules.cmp → (rows : List (K × V)) (writes : List (Write K V F P)) → RowsRise rules.cmp rows
+  pub after_writes-again : KeyOrder rules.cmp → (rows : List (K × V)) (writes : List (Write K V F P)) → SortedByKey rules.cmp rows
       → after_writes rules (after_writes rules rows writes) writes ≡ after_writes rules rows writes
   after_writes-again order rows writes rise =
       let once = rise-after_writes rules order rows writes rise in

@@ -1,5 +1,5 @@
 -- Kinds of events, and which of them write in which section.
-use Rattle.std.specs.Prelude.{Bool, true, false, List, [], ◌∷◌}
+use Rattle.std.specs.Prelude.{ℕ, Bool, true, false, List, [], ◌∷◌, codes}
 use Rattle.std.specs.List.{list_all, list_any}
 use Rattle.ev_types.specs.declared.section.Section.{Section}
 use Rattle.ev_types.specs.declared.section.Section.TheVariants as section
@@ -32,6 +32,20 @@ kind_of (MessageGone messages) = kind.DeleteMessage
 kind_of (ReactionAdd message user emoji) = kind.Reaction
 kind_of (ReactionRemove message user emoji) = kind.Reaction
 kind_of Heartbeat = kind.Heartbeat
+
+-- the name of a kind, which is the `type` of its events
+abbrev pub kind_name : EventKind → List ℕ
+kind_name kind.Realm = codes "realm"
+kind_name kind.RealmUser = codes "realm_user"
+kind_name kind.Stream = codes "stream"
+kind_name kind.Subscription = codes "subscription"
+kind_name kind.Message = codes "message"
+kind_name kind.MessagesRestored = codes "messages_restored"
+kind_name kind.UpdateMessage = codes "update_message"
+kind_name kind.UpdateMessageFlags = codes "update_message_flags"
+kind_name kind.DeleteMessage = codes "delete_message"
+kind_name kind.Reaction = codes "reaction"
+kind_name kind.Heartbeat = codes "heartbeat"
 
 -- the kinds of the events that write in a section
 abbrev pub feeders : Section → List EventKind

@@ -2,13 +2,13 @@
 use Rattle.std.specs.Prelude.{◌≡◌, true, false, List, [], ◌++◌}
 use Rattle.std.specs.declared.cmp.Ordering.{Ordering}
 use Rattle.ev_rows.specs.KeyOrder.{KeyOrder}
-use Rattle.ev_rows.specs.Rows.{RowsRise, row_at}
+use Rattle.ev_rows.specs.Rows.{SortedByKey, row_at}
 use Rattle.ev_types.specs.declared.event.Event.{Event}
 use Rattle.ev_types.specs.declared.rows.ShownRealm.{ShownRealm}
 use Rattle.ev_types.specs.declared.section.Section.{Section}
 use Rattle.ev_types.specs.declared.section.Section.TheVariants as section
 use Rattle.ev_types.specs.declared.kind.Types.{Types}
-use Rattle.ev_types.specs.Sections.{Sections, SectionsRise}
+use Rattle.ev_types.specs.Sections.{Sections, SectionsSorted}
 use Rattle.ev_types.specs.Settling.{Settles}
 use Rattle.ev_types.specs.Writes.{Write, Rules, after_writes, cell_after}
 use Rattle.ev_types.specs.EventWrites.{realm_after, user_writes, stream_writes, subscription_writes, subscriber_writes, message_writes, reaction_writes, starred_writes, unread_writes}
@@ -18,32 +18,32 @@ use Rattle.ev_types.specs.Feeders.{kind_of, is_fed, receives, covers}
 -- writes change the row of each key by itself, and leave the rows rising
 abbrev pub WritesChangeCells : (K V F P : Type 0) → Type 0
 WritesChangeCells K V F P =
-    (rules : Rules K V F P) (rows : List (K × V)) (writes : List (Write K V F P)) → KeyOrder rules.cmp → RowsRise rules.cmp rows →
-    RowsRise rules.cmp (after_writes rules rows writes)
+    (rules : Rules K V F P) (rows : List (K × V)) (writes : List (Write K V F P)) → KeyOrder rules.cmp → SortedByKey rules.cmp rows →
+    SortedByKey rules.cmp (after_writes rules rows writes)
     × ((key : K) → row_at rules.cmp (after_writes rules rows writes) key ≡ cell_after rules key (row_at rules.cmp rows key) writes)
 
 -- rows that rise and have the same value at every key are equal
 abbrev pub RowsAreTheirCells : (K V : Type 0) → Type 0
 RowsAreTheirCells K V =
-    (cmp : K → K → Ordering) (rows others : List (K × V)) → KeyOrder cmp → RowsRise cmp rows → RowsRise cmp others →
+    (cmp : K → K → Ordering) (rows others : List (K × V)) → KeyOrder cmp → SortedByKey cmp rows → SortedByKey cmp others →
     ((key : K) → row_at cmp rows key ≡ row_at cmp others key) → rows ≡ others
 
 -- the same writes done again change nothing, where setting a field settles
 abbrev pub WritesSettle : (K V F P : Type 0) → Type 0
 WritesSettle K V F P =
-    (rules : Rules K V F P) (rows : List (K × V)) (writes : List (Write K V F P)) → KeyOrder rules.cmp → Settles (λ row field. rules.set field row) → RowsRise rules.cmp rows →
+    (rules : Rules K V F P) (rows : List (K × V)) (writes : List (Write K V F P)) → KeyOrder rules.cmp → Settles (λ row field. rules.set field row) → SortedByKey rules.cmp rows →
     after_writes rules (after_writes rules rows writes) writes ≡ after_writes rules rows writes
 
 -- the same events applied again change nothing, and leave the rows of every section rising
 abbrev pub EventsSettle : Type 0
 EventsSettle =
-    (events : List Event) (view : Sections) → SectionsRise view →
-    SectionsRise (applied events view) × (applied events (applied events view) ≡ applied events view)
+    (events : List Event) (view : Sections) → SectionsSorted view →
+    SectionsSorted (applied events view) × (applied events (applied events view) ≡ applied events view)
 
 -- events that a view holds already may come again before those that follow
 abbrev pub OverlapsSettle : Type 0
 OverlapsSettle =
-    (before after : List Event) (view : Sections) → SectionsRise view →
+    (before after : List Event) (view : Sections) → SectionsSorted view →
     applied (before ++ after) (applied before view) ≡ applied after (applied before view)
 
 -- the event writes nothing in the section

@@ -6,3 +6,6 @@ pub mod Applying
 pub mod Feeders
 pub mod Audiences
 pub mod Laws
+pub mod Changes
+pub mod Comparable
+pub mod OneSection

@@ -1,6 +1,6 @@
 -- The sections of a view, and states: sections of which each is present or not.
 use Rattle.std.specs.Prelude.{◌≡◌, ℕ, List, Option, Some, option_map}
-use Rattle.ev_rows.specs.Rows.{Table, RowsRise}
+use Rattle.ev_rows.specs.Rows.{Table, SortedByKey}
 use Rattle.ev_base.specs.declared.ids.UserId.{UserId}
 use Rattle.ev_base.specs.declared.ids.StreamId.{StreamId}
 use Rattle.ev_base.specs.declared.ids.MessageId.{MessageId}
@@ -77,13 +77,13 @@ sections_of state = record {
 abbrev pub IsWhole : State → Sections → Type 0
 IsWhole state view = sections_of state ≡ all_of view
 
--- the rows of every section rise by key
-pub record SectionsRise (view : Sections) : Type 0 where
-  pub realm_users : RowsRise user_cmp view.realm_users
-  pub streams : RowsRise stream_cmp view.streams
-  pub subscriptions : RowsRise stream_cmp view.subscriptions
-  pub subscribers : RowsRise stream_user_cmp view.subscribers
-  pub messages : RowsRise message_cmp view.messages
-  pub reactions : RowsRise reaction_cmp view.reactions
-  pub starred_messages : RowsRise message_cmp view.starred_messages
-  pub unread_messages : RowsRise message_cmp view.unread_messages
+-- the rows of every section are sorted by key
+pub record SectionsSorted (view : Sections) : Type 0 where
+  pub realm_users : SortedByKey user_cmp view.realm_users
+  pub streams : SortedByKey stream_cmp view.streams
+  pub subscriptions : SortedByKey stream_cmp view.subscriptions
+  pub subscribers : SortedByKey stream_user_cmp view.subscribers
+  pub messages : SortedByKey message_cmp view.messages
+  pub reactions : SortedByKey reaction_cmp view.reactions
+  pub starred_messages : SortedByKey message_cmp view.starred_messages
+  pub unread_messages : SortedByKey message_cmp view.unread_messages

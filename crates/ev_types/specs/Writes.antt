@@ -1,4 +1,4 @@
--- Writes to a list of rows that rise by key.
+-- Writes to a list of rows sorted by key.
 use Rattle.std.specs.Prelude.{Bool, not, if◌then◌else◌, Option, None, Some, option_map, List, fold, filter}
 use Rattle.std.specs.Option.{option_map_or}
 use Rattle.std.specs.declared.cmp.Ordering.{Ordering}

@@ -2,7 +2,7 @@
 
 ghost use Rattle.std.specs.Prelude.{◌≡◌, ◌↔◌, IsTrue, true};
 ghost use Rattle.ev_types.specs.Feeders as of_section;
-ghost use Rattle.ev_types.specs.Feeders.{covers, kind_of, receives};
+ghost use Rattle.ev_types.specs.Feeders.{covers, kind_name, kind_of, receives};
 
 use crate::event::Event;
 use crate::section::Section;
@@ -53,6 +53,27 @@ impl Event {
             Event::MessageGone(_) => EventKind::DeleteMessage,
             Event::ReactionAdd { .. } | Event::ReactionRemove { .. } => EventKind::Reaction,
             Event::Heartbeat => EventKind::Heartbeat,
+        }
+    }
+}
+
+impl EventKind {
+    /// The name of this kind, which is the `type` of its events.
+    pub fn name(self) -> &'static str
+        ensures { result.now ≡ kind_name self }
+    {
+        match self {
+            EventKind::Realm => "realm",
+            EventKind::RealmUser => "realm_user",
+            EventKind::Stream => "stream",
+            EventKind::Subscription => "subscription",
+            EventKind::Message => "message",
+            EventKind::MessagesRestored => "messages_restored",
+            EventKind::UpdateMessage => "update_message",
+            EventKind::UpdateMessageFlags => "update_message_flags",
+            EventKind::DeleteMessage => "delete_message",
+            EventKind::Reaction => "reaction",
+            EventKind::Heartbeat => "heartbeat",
         }
     }
 }

@@ -1,6 +1,7 @@
 //! Notices: what one commit tells clients.
 
 ghost use Rattle.std.specs.Prelude.{◌≡◌, IfOk, IsTrue, ◌↔◌};
+ghost use Rattle.std.proofs.Common.{rules};
 ghost use Rattle.ev_types.specs.Audiences.{events_for, has_user};
 
 use crate::event::Event;
@@ -23,11 +24,23 @@ pub struct Part {
 }
 
 /// What one commit tells clients: its number, the user whom it deactivated, and the events.
-#[derive(Debug, Drop)]
+#[derive(Clone, Debug, Drop)]
 pub struct Notice {
     pub number: u64,
     pub ends: Option<UserId>,
     pub parts: Listed<Part>,
+}
+
+impl ExactClone for Audience {
+    ghost exact = { Prim.search rules };
+}
+
+impl ExactClone for Part {
+    ghost exact = { Prim.search rules };
+}
+
+impl ExactClone for Notice {
+    ghost exact = { Prim.search rules };
 }
 
 impl Audience {

@@ -3,7 +3,7 @@
 use crate::rows::{ShownMessage, ShownRealm, ShownStream, ShownSubscription, ShownUser};
 use ev_base::{Keyed, MessageId, Place, RowList, StreamId, Text, UserId};
 
-/// The rows of one section, which rise by key.
+/// The rows of one section, which are sorted by key.
 #[derive(Debug, Drop)]
 pub enum Rows {
     Realm(ShownRealm),

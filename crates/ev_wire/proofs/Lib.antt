@@ -1,1 +1,3 @@
 pub mod FloatFree
+pub mod Puts
+pub mod Told

@@ -1,72 +1,67 @@
--- The bodies that clients are answered: the JSON values, and their texts without white space, keys rising by their bytes.
-use Rattle.std.specs.Prelude.{ℕ, ℤ, List, [], codes, map}
-use Rattle.serde_json.specs.Data.{Data, unsigned, boolean, number, string, array, object, no_members, member}
+-- The bodies that clients are answered: JSON values, and their texts without white space.
+use Rattle.std.specs.Prelude.{ℕ, ℤ, List, [], codes, option_map}
+use Rattle.serde_json.specs.Data.{Data, number, string, object, Members, no_members, put}
 use Rattle.serde_json.specs.Find.{of_integer}
-use Rattle.serde_json.specs.View.{items_of}
 use Rattle.serde_json.specs.Written.{compact_text}
 use Rattle.ev_base.specs.QueueIds.{queue_text}
-use Rattle.ev_base.specs.Roles.{role_number}
-use Rattle.ev_base.specs.declared.ids.UserId.{UserId}
 use Rattle.ev_base.specs.declared.ids.QueueId.{QueueId}
-use Rattle.zw_lines.specs.declared.people.Person.{Person}
-use Rattle.zw_lines.specs.declared.people.Event.{Event}
-use Rattle.zw_lines.specs.declared.people.Event.TheVariants.{UserAdd, UserChange}
-use Rattle.zw_lines.specs.declared.people.Item.{Item}
-use Rattle.zw_lines.specs.Views.{Rows}
+use Rattle.ev_types.specs.declared.event.Item.{Item}
+use Rattle.ev_types.specs.Sections.{SomeSections}
+use Rattle.ev_wire.specs.Values.{number_data, list_data, put_some}
+use Rattle.ev_wire.specs.Rows.{realm_data, user_data, stream_data, subscription_data, subscriber_data, message_data, reaction_data, starred_data, unread_data}
+use Rattle.ev_wire.specs.Events.{item_data}
 
 -- the level that a register body tells of its protocol
 abbrev pub feature_level : ℕ
 feature_level = 1
 
--- a user's row
-abbrev pub person_data : UserId → Person → Data
-person_data user person =
-    object (member (codes "email") (string person.email)
-    (member (codes "full_name") (string person.full_name)
-    (member (codes "is_active") (boolean person.is_active)
-    (member (codes "role") (number (unsigned (role_number person.role)))
-    (member (codes "user_id") (number (unsigned user.0)) no_members)))))
+-- the sections that are present: those of people and streams, and those of messages beside them
+abbrev pub stream_sections : SomeSections → Members
+stream_sections state =
+    put_some (codes "subscribers") (option_map (list_data subscriber_data) state.subscribers)
+    (put_some (codes "subscriptions") (option_map (list_data subscription_data) state.subscriptions)
+    (put_some (codes "streams") (option_map (list_data stream_data) state.streams)
+    (put_some (codes "realm_users") (option_map (list_data user_data) state.realm_users)
+    (put_some (codes "realm") (option_map realm_data state.realm) no_members))))
 
--- the user of a change, with what changed
-abbrev pub name_data : UserId → List ℕ → Data
-name_data user full_name =
-    object (member (codes "full_name") (string full_name)
-    (member (codes "user_id") (number (unsigned user.0)) no_members))
+abbrev pub message_sections : SomeSections → Members → Members
+message_sections state members =
+    put_some (codes "unread_msgs") (option_map (list_data unread_data) state.unread_messages)
+    (put_some (codes "starred_messages") (option_map (list_data starred_data) state.starred_messages)
+    (put_some (codes "reactions") (option_map (list_data reaction_data) state.reactions)
+    (put_some (codes "messages") (option_map (list_data message_data) state.messages) members)))
 
--- an event of users, by its operation and its user
-abbrev pub person_event_data : ℤ → List ℕ → Data → Data
-person_event_data id operation person =
-    object (member (codes "id") (number (of_integer id))
-    (member (codes "op") (string operation)
-    (member (codes "person") person
-    (member (codes "type") (string (codes "realm_user")) no_members))))
+abbrev pub section_members : SomeSections → Members
+section_members state = message_sections state (stream_sections state)
 
--- an event with its id
-abbrev pub event_data : ℤ → Event → Data
-event_data id (UserAdd user person) = person_event_data id (codes "add") (person_data user person)
-event_data id (UserChange user full_name) = person_event_data id (codes "update") (name_data user full_name)
+abbrev pub state_data : SomeSections → Data
+state_data state = object (section_members state)
 
--- a register body: the rows of users, the queue, and the last id that was applied, -1 where none was
-abbrev pub register_data : QueueId → ℤ → Rows → Data
-register_data queue last_event_id rows =
-    object (member (codes "last_event_id") (number (of_integer last_event_id))
-    (member (codes "msg") (string [])
-    (member (codes "queue_id") (string (queue_text queue))
-    (member (codes "realm_users") (array (items_of (map (λ row. person_data row.0 row.1) rows)))
-    (member (codes "result") (string (codes "success"))
-    (member (codes "zulip_feature_level") (number (unsigned feature_level)) no_members))))))
+-- a success: beside what it tells
+abbrev pub success : Members → Members
+success members = put (codes "result") (string (codes "success")) (put (codes "msg") (string []) members)
+
+abbrev pub of_queue : QueueId → Members → Members
+of_queue queue members = put (codes "queue_id") (string (queue_text queue)) members
+
+-- a register body: the sections, the queue, and the last id that was applied, -1 where none was
+abbrev pub register_data : QueueId → ℤ → SomeSections → Data
+register_data queue last_event_id state =
+    object (put (codes "zulip_feature_level") (number_data feature_level)
+    (put (codes "last_event_id") (number (of_integer last_event_id))
+    (of_queue queue (success (section_members state)))))
 
 -- an events body: the items in order
 abbrev pub events_data : QueueId → List Item → Data
 events_data queue items =
-    object (member (codes "events") (array (items_of (map (λ it. event_data it.id it.event) items)))
-    (member (codes "msg") (string [])
-    (member (codes "queue_id") (string (queue_text queue))
-    (member (codes "result") (string (codes "success")) no_members))))
+    object (put (codes "events") (list_data item_data items) (of_queue queue (success no_members)))
 
 -- the texts of these bodies
-abbrev pub register_text : QueueId → ℤ → Rows → List ℕ
-register_text queue last_event_id rows = compact_text (register_data queue last_event_id rows)
+abbrev pub state_text : SomeSections → List ℕ
+state_text state = compact_text (state_data state)
+
+abbrev pub register_text : QueueId → ℤ → SomeSections → List ℕ
+register_text queue last_event_id state = compact_text (register_data queue last_event_id state)
 
 abbrev pub events_text : QueueId → List Item → List ℕ
 events_text queue items = compact_text (events_data queue items)

@@ -1,1 +1,4 @@
+pub mod Values
+pub mod Rows
+pub mod Events
 pub mod Bodies

@@ -256,15 +256,6 @@ fn a_realm_of_tables_and_its_copy_have_their_rows(rt: HostRuntime) -> Result<(),
 }
 
 #[test]
-fn the_laws_of_a_realm_can_be_called(rt: HostRuntime) -> Result<(), Fail> {
-    of_sample(rt.alloc(), |realm| {
-        realm.is_sound();
-        realm.tables_rise();
-        Ok(())
-    })
-}
-
-#[test]
 fn rows_are_found_by_their_keys(rt: HostRuntime) -> Result<(), Fail> {
     let found = concat!(
         r#"Found { name: Some("Ann"), privacy: Some(Shared), content: Some("two"), "#,

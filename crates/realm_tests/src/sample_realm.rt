@@ -14,10 +14,11 @@ use ev_base::{
 use std::alloc::Global;
 use std::test::Fail;
 use zr_marks::Marks;
-use zr_people::{RealmRow, User, Users};
-use zr_posts::{Message, Posts, Receipt};
+use zr_people::Users;
+use zr_posts::Posts;
 use zr_realm::Realm;
-use zr_streams::{Stream, Streams, Subscription};
+use zr_streams::Streams;
+use zr_types::{Message, RealmRow, Receipt, Stream, Subscription, User};
 
 pub const ANN: UserId = UserId(1);
 

@@ -1,4 +1,4 @@
-//! Tests of a replay: its ports, the lines of a script, and the whole run.
+//! Tests of a replay: its ports, and the whole run.
 #![tactic(auto)]
 
 #[cfg(test)]
@@ -8,4 +8,4 @@ mod ports;
 #[cfg(test)]
 mod run;
 #[cfg(test)]
-mod script;
+mod stories;

@@ -1,6 +1,7 @@
 //! The run of a script, from the bytes that are read to the bytes that are written.
 
 use crate::checks::check_text;
+use crate::stories as story;
 use ev_ports::{MemSink, MemSource};
 use std::alloc::{AllocError, Global};
 use std::process::Abort;
@@ -9,80 +10,6 @@ use std::test::Fail;
 use zm_run::{Status, run};
 
 const ADD_ANN: &str = "user_add 0 ann@x.org Ann 100 k1\n";
-
-const POLLS: &str = "user_add 0 ann@x.org Ann 100 k1
-register 1 * realm_user
-poll 1 1.0 0
-poll 1 1.0 -1
-poll 1 1.0 1
-poll 1 1.1 -1
-";
-
-const POLLS_TOLD: &str = r#"committed 1 1
-finished 1 {"last_event_id":0,"msg":"","queue_id":"00000001-0000-0000-0000-000000000000","realm_users":[{"email":"ann@x.org","full_name":"Ann","is_active":true,"role":100,"user_id":1}],"result":"success","zulip_feature_level":1}
-empty 1
-pruned 0
-not_sent 0
-bad_queue
-"#;
-
-const REFUSALS: &str = "user_update 1 1 Ann
-register 1 * realm_user
-user_add 0 ann@x.org Ann 100 k1
-user_add 0 bob@x.org Bob 100 k2
-user_update 1 1 Ann
-register 1 * realm_user
-";
-
-const REFUSALS_TOLD: &str = r#"refused 1 ActorUnknown
-fetch_refused
-committed 1 1
-refused 1 ActorUnknown
-refused 7 AlreadySo
-finished 1 {"last_event_id":0,"msg":"","queue_id":"00000001-0000-0001-0000-000000000000","realm_users":[{"email":"ann@x.org","full_name":"Ann","is_active":true,"role":100,"user_id":1}],"result":"success","zulip_feature_level":1}
-"#;
-
-/// A client registers, and polls once the rename was pushed.
-const FOLLOWED: &str = "user_add 0 ann@x.org Ann 100 k1
-notice
-push 0
-register 1 * realm_user
-user_update 1 1 Anna
-notice
-push 0
-poll 1 1.0 -1
-poll 1 1.0 0
-poll 1 1.0 -1
-";
-
-const FOLLOWED_TOLD: &str = r#"committed 1 1
-noticed 1
-pushed 1
-finished 1 {"last_event_id":-1,"msg":"","queue_id":"00000001-0000-0000-0000-000000000000","realm_users":[{"email":"ann@x.org","full_name":"Ann","is_active":true,"role":100,"user_id":1}],"result":"success","zulip_feature_level":1}
-committed 2
-noticed 2
-pushed 2
-answer 2 {"events":[{"id":0,"op":"update","person":{"full_name":"Anna","user_id":1},"type":"realm_user"}],"msg":"","queue_id":"00000001-0000-0000-0000-000000000000","result":"success"}
-empty 2
-pruned 0
-"#;
-
-/// A client registers, and polls before the rename was pushed.
-const POLLED_EARLY: &str = "user_add 0 ann@x.org Ann 100 k1
-notice
-push 0
-register 1 * realm_user
-user_update 1 1 Anna
-poll 1 1.0 -1
-";
-
-const POLLED_EARLY_TOLD: &str = r#"committed 1 1
-noticed 1
-pushed 1
-finished 1 {"last_event_id":-1,"msg":"","queue_id":"00000001-0000-0000-0000-000000000000","realm_users":[{"email":"ann@x.org","full_name":"Ann","is_active":true,"role":100,"user_id":1}],"result":"success","zulip_feature_level":1}
-committed 2
-empty 1
-"#;
 
 /// The longest line that isn't too long.
 const LONGEST: usize = 65_536;
@@ -137,6 +64,12 @@ fn check(rt: &impl Abort, replayed: (Status, String), status: Status, written: &
     check_text(rt, replayed.1.as_bytes(), written);
 }
 
+/// Checks that a script is played to its end, and what it prints.
+fn check_story(rt: &impl Abort, alloc: Global, script: &str, told: &str) -> Result<(), Fail> {
+    check(rt, replay(alloc, script)?, Status::Done, told);
+    Ok(())
+}
+
 #[test]
 fn an_empty_script_prints_nothing(rt: HostRuntime) -> Result<(), Fail> {
     check(&rt, replay(rt.alloc(), "")?, Status::Done, "");
@@ -178,41 +111,94 @@ fn a_line_past_the_grammar_ends_a_run(rt: HostRuntime) -> Result<(), Fail> {
 }
 
 #[test]
-fn each_answer_of_a_poll_is_told(rt: HostRuntime) -> Result<(), Fail> {
-    check(&rt, replay(rt.alloc(), POLLS)?, Status::Done, POLLS_TOLD);
-    Ok(())
-}
-
-#[test]
-fn refusals_are_told(rt: HostRuntime) -> Result<(), Fail> {
-    check(
-        &rt,
-        replay(rt.alloc(), REFUSALS)?,
-        Status::Done,
-        REFUSALS_TOLD,
-    );
-    Ok(())
-}
-
-#[test]
 fn a_client_follows_a_rename(rt: HostRuntime) -> Result<(), Fail> {
-    check(
-        &rt,
-        replay(rt.alloc(), FOLLOWED)?,
-        Status::Done,
-        FOLLOWED_TOLD,
-    );
-    Ok(())
+    check_story(&rt, rt.alloc(), story::A_RENAME, story::A_RENAME_TOLD)
 }
 
 #[test]
 fn a_poll_before_the_push_is_empty(rt: HostRuntime) -> Result<(), Fail> {
-    check(
+    check_story(
         &rt,
-        replay(rt.alloc(), POLLED_EARLY)?,
-        Status::Done,
-        POLLED_EARLY_TOLD,
-    );
+        rt.alloc(),
+        story::A_POLL_BEFORE_THE_PUSH,
+        story::A_POLL_BEFORE_THE_PUSH_TOLD,
+    )
+}
+
+#[test]
+fn a_stream_that_becomes_public_is_told(rt: HostRuntime) -> Result<(), Fail> {
+    check_story(
+        &rt,
+        rt.alloc(),
+        story::A_STREAM_THAT_BECOMES_PUBLIC,
+        story::A_STREAM_THAT_BECOMES_PUBLIC_TOLD,
+    )
+}
+
+#[test]
+fn a_deactivated_user_loses_its_queues(rt: HostRuntime) -> Result<(), Fail> {
+    check_story(
+        &rt,
+        rt.alloc(),
+        story::A_DEACTIVATION,
+        story::A_DEACTIVATION_TOLD,
+    )
+}
+
+#[test]
+fn each_refusal_is_told(rt: HostRuntime) -> Result<(), Fail> {
+    check_story(&rt, rt.alloc(), story::REFUSALS, story::REFUSALS_TOLD)
+}
+
+#[test]
+fn the_first_of_two_refusals_is_told(rt: HostRuntime) -> Result<(), Fail> {
+    check_story(
+        &rt,
+        rt.alloc(),
+        story::REFUSALS_AT_ONCE,
+        story::REFUSALS_AT_ONCE_TOLD,
+    )
+}
+
+#[test]
+fn an_uncovered_section_is_answered(rt: HostRuntime) -> Result<(), Fail> {
+    check_story(
+        &rt,
+        rt.alloc(),
+        story::AN_UNCOVERED_SECTION,
+        story::AN_UNCOVERED_SECTION_TOLD,
+    )
+}
+
+/// The bytes of a line, so many times, behind those of another.
+fn repeated(alloc: Global, first: &str, line: &str, times: u32) -> Result<Vec<u8>, AllocError> {
+    let mut script = first.as_bytes().to_vec(alloc)?;
+    for _ in 0..times {
+        script.extend_from_slice(line.as_bytes())?;
+    }
+    Ok(script)
+}
+
+/// The last line that a run writes.
+fn last_line(written: &str) -> &str {
+    written.trim_end().rsplit('\n').next().unwrap_or("none")
+}
+
+#[test]
+fn a_user_has_32_queues_at_most(rt: HostRuntime) -> Result<(), Fail> {
+    let script = repeated(rt.alloc(), ADD_ANN, "register 1 - -\n", 33)?;
+    let replayed = replay_with_faults(rt.alloc(), &script, &[], &[])?;
+    assert_eq!(rt; last_line(&replayed.1), "too_many 32");
+    Ok(())
+}
+
+#[test]
+fn one_push_brings_more_than_256_notices(rt: HostRuntime) -> Result<(), Fail> {
+    let renames = "user_update 1 1 Anna\nuser_update 1 1 Ann\n";
+    let mut script = repeated(rt.alloc(), ADD_ANN, renames, 150)?;
+    script.extend_from_slice(b"notice\npush 0\n")?;
+    let replayed = replay_with_faults(rt.alloc(), &script, &[], &[])?;
+    assert_eq!(rt; last_line(&replayed.1), "pushed 301");
     Ok(())
 }
 
@@ -293,27 +279,25 @@ fn long_script(alloc: Global) -> Result<Vec<u8>, AllocError> {
     Ok(script)
 }
 
+/// What is written by the long script before its read or its write with this number.
+const BEFORE: [&str; 3] = ["", "committed 1 1\n", "committed 1 1\ncommitted 2\n"];
+
 #[test]
 fn output_before_a_failing_write_stands(rt: HostRuntime) -> Result<(), Fail> {
     let script = long_script(rt.alloc())?;
-    let replayed = replay_with_faults(rt.alloc(), &script, &[], &[3])?;
-    check(
-        &rt,
-        replayed,
-        Status::WriteFault,
-        "committed 1 1\ncommitted 2\n",
-    );
+    for (index, before) in BEFORE.iter().enumerate() {
+        let replayed = replay_with_faults(rt.alloc(), &script, &[], &[index as u64 + 1])?;
+        check(&rt, replayed, Status::WriteFault, before);
+    }
     Ok(())
 }
 
 #[test]
 fn output_before_a_failing_read_stands(rt: HostRuntime) -> Result<(), Fail> {
     let script = long_script(rt.alloc())?;
-    check(
-        &rt,
-        replay_with_faults(rt.alloc(), &script, &[2], &[])?,
-        Status::ReadFault,
-        "committed 1 1\n",
-    );
+    for (index, before) in BEFORE.iter().enumerate() {
+        let replayed = replay_with_faults(rt.alloc(), &script, &[index as u64 + 1], &[])?;
+        check(&rt, replayed, Status::ReadFault, before);
+    }
     Ok(())
 }

@@ -4,7 +4,8 @@ ghost use Rattle.std.specs.Prelude.{◌≡◌, ◌+◌, ◌≤◌, vec_len};
 
 use ev_base::{MessageId, NoMemory, UserId, rows_rise};
 use std::alloc::Global;
-use zr_posts::{Posts, Receipt};
+use zr_posts::Posts;
+use zr_types::Receipt;
 
 const UNREAD: Receipt = Receipt {
     read: false,

@@ -4,7 +4,8 @@ use crate::samples::{same, text_is};
 use ev_base::{Role, Text, TextFault, TextKind, UserId};
 use std::alloc::Global;
 use std::test::Fail;
-use zr_people::{RealmRow, User, Users};
+use zr_people::Users;
+use zr_types::{RealmRow, User};
 
 fn realm_row(alloc: Global, name: &str) -> Result<RealmRow, TextFault> {
     Ok(RealmRow {

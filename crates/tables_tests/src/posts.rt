@@ -5,7 +5,8 @@ use ev_base::{MessageId, Place, StreamId, Text, TextFault, TextKind, UserId, row
 use std::alloc::Global;
 use std::mem::size_of;
 use std::test::Fail;
-use zr_posts::{Message, Posts, Receipt};
+use zr_posts::Posts;
+use zr_types::{Message, Receipt};
 
 const _: () = prove!(size_of::<((UserId, MessageId), Receipt)>() <= 16);
 

@@ -4,7 +4,8 @@ use crate::samples::{same, text_is};
 use ev_base::{Privacy, StreamId, Text, TextFault, TextKind, UserId};
 use std::alloc::Global;
 use std::test::Fail;
-use zr_streams::{Stream, Streams, Subscription};
+use zr_streams::Streams;
+use zr_types::{Stream, Subscription};
 
 fn stream(alloc: Global, name: &str) -> Result<Stream, TextFault> {
     Ok(Stream {

@@ -1,149 +1,158 @@
--- The one reply that is right after some steps, but for want of memory.
-use Rattle.std.proofs.Common.{◌≡◌, ◌≢◌, ℕ, ◌+◌, ◌-◌, max, Bool, true, false, ◌&&◌, ◌||◌, nat_lt, nat_le, if◌then◌else◌, Option, None, Some, List, length, drop, count_by, sym, ap, inl, inr, MatchBool}
+-- The one reply that is right after some steps, but for out of memory and for the room of states.
+use Rattle.std.proofs.Common.{◌≡◌, ◌≢◌, ℕ, ◌+◌, ◌-◌, max, Bool, true, false, ◌&&◌, ◌||◌, nat_lt, nat_le, if◌then◌else◌, Option, None, Some, List, length, refl, ap, sym, ◌∙◌, inl, inr, MatchBool, MatchOption}
 use Rattle.ev_base.specs.declared.ids.UserId.{UserId}
-use Rattle.ev_base.specs.declared.ids.QueueId.{QueueId}
-use Rattle.zw_lines.specs.declared.people.Command.{Command}
-use Rattle.zw_lines.specs.declared.people.Event.{Event}
-use Rattle.zw_lines.specs.declared.people.Refusal.{Refusal}
-use Rattle.zw_lines.specs.declared.realm.RealmInput.TheVariants as realm
-use Rattle.zw_lines.specs.declared.realm.RealmReply.{RealmReply}
-use Rattle.zw_lines.specs.declared.realm.RealmReply.TheVariants as realm_reply
-use Rattle.zw_lines.specs.declared.shard.ShardInput.{ShardInput}
-use Rattle.zw_lines.specs.declared.shard.ShardInput.TheVariants.{Start, Push, Finish, Poll, Delete, Locate}
-use Rattle.zw_lines.specs.declared.shard.ShardReply.{ShardReply}
-use Rattle.zw_lines.specs.declared.shard.ShardReply.TheVariants.{Opened, OpensSpent, TooManyQueues, Pushed, Gap, Finished, NotPushed, Answer, Empty, BadQueue, NotSent, Pruned, Deleted, At, NoMemory}
-use Rattle.zw_lines.specs.Views.{Rows, view_of}
-use Rattle.zw_lines.specs.Tables.{is_active_user, refusal, made_by}
-use Rattle.zw_lines.specs.RealmLine.{RealmStep, RealmAnswers, Accepted, commands, first_of, tables, view_after}
-use Rattle.zw_lines.specs.ShardLine.{ShardStep, ShardAnswers, OrNoMemory, is_opening_phase, is_live_phase, is_opening, is_live, is_held, held, position, opened, given, pruned, same_user, is_below_all, count_of, id_of, numbered, all_opens, all_held}
-use Rattle.zw_lines.specs.Histories.{changes_stream, viewed, events_since}
-use Rattle.zm_laws.proofs.LineStates.{LineState, state_of}
+use Rattle.ev_types.specs.declared.section.Section.{Section}
+use Rattle.zr_types.specs.declared.command.Command.{Command}
+use Rattle.zr_types.specs.declared.command.Committed.{Committed}
+use Rattle.zr_types.specs.declared.command.Refusal.{Refusal}
+use Rattle.zr_types.specs.Effects.{made_by}
+use Rattle.zr_types.specs.Refusals.{refusal}
+use Rattle.zw_traces.specs.declared.realm.RealmInput.TheVariants as realm
+use Rattle.zw_traces.specs.declared.realm.RealmReply.{RealmReply}
+use Rattle.zw_traces.specs.declared.realm.RealmReply.TheVariants as realm_reply
+use Rattle.zw_traces.specs.declared.realm.RealmStep.{RealmStep}
+use Rattle.zw_traces.specs.declared.shard.FetchedSection.{FetchedSection}
+use Rattle.zw_traces.specs.declared.shard.ShardInput.{ShardInput}
+use Rattle.zw_traces.specs.declared.shard.ShardInput.TheVariants.{Start, Push, Finish, Poll, Delete, Tick, Locate}
+use Rattle.zw_traces.specs.declared.shard.ShardReply.{ShardReply}
+use Rattle.zw_traces.specs.declared.shard.ShardReply.TheVariants.{Opened, OpensSpent, TooManyQueues, Pushed, Gap, Finished, MissingSection, NotPushed, Answer, Empty, BadQueue, NotSent, Pruned, Deleted, Ticked, At, NoMemory}
+use Rattle.zr_types.specs.Commits.{changed_by}
+use Rattle.zw_traces.specs.RealmTrace.{Accepted, RealmAnswers, commands, state_of}
+use Rattle.zw_traces.specs.Account.{Account, count_of, id_of, is_below_all, is_empty, is_held, is_live_phase, is_opening_phase, items_to_give, same_user}
+use Rattle.zw_traces.specs.FetchedSections.{all_sections, first_missing, needed}
+use Rattle.zw_traces.specs.ShardTrace.{IsFinished, OrNoMemory, Reading, ShardAccount, ShardAnswers, expiries, max_held, max_opens, next_queue, opened_by, shown_items}
+use Rattle.zm_laws.specs.Laws.{full_state}
+use Rattle.zm_laws.proofs.FullStates.{full_state_from, sections_from, state_with}
 
--- a queue's events
-abbrev pub stream_in : List Accepted → LineState → QueueId → List Event
-stream_in all state queue = events_since queue.user (state.opened_at queue) (first_of state.position all)
+-- a reply whose state has no room
+abbrev pub full_reply : ShardReply → ShardReply
+full_reply (Finished state last reached) = Finished (full_state state) last reached
+full_reply reply = reply
 
--- the queue is opening or live
-abbrev pub is_held_in : LineState → QueueId → Bool
-is_held_in state queue = is_opening_phase (state.phase queue) || is_live_phase (state.phase queue)
+-- the reply to a finish, or missing sections
+abbrev missing_or : Option Section → List FetchedSection → ShardReply → ShardReply
+missing_or None parts next = next
+missing_or (Some which) parts next = MissingSection which parts
 
--- the next queue of a user
-abbrev pub next_in : LineState → UserId → QueueId
-next_in state user = record { user = user; number = length (state.opened user); salt = 0 }
-
--- the reply of a shard whose line has this state, over all commands of a history
-abbrev pub reply_in : List Accepted → LineState → ShardInput → ShardReply
-reply_in all state (Start user) =
-    if nat_le all_opens (length (state.opened user)) then OpensSpent else
-    if nat_le all_held (count_by (is_held_in state) (state.opened user)) then TooManyQueues else
-    Opened (next_in state user) state.position
-reply_in all state (Push first notices) =
-    if nat_lt (state.position + 1) first then Gap state.position first else
-    Pushed (max state.position (first + length notices - 1))
-reply_in all state (Finish queue part) =
-    if is_opening_phase (state.phase queue)
-    then (if nat_lt state.position part.at then NotPushed state.position part.at part else
-    Finished (view_after queue.user state.position all) (id_of (length (stream_in all state queue))) state.position)
+-- the reply of a shard, where finishes read so
+abbrev pub reply_in : Reading → ShardAccount → ShardInput → ShardReply
+reply_in reading s (Start user salt moment types asked) =
+    if nat_le max_opens (s.opens user) then OpensSpent else
+    if nat_le max_held (length (opened_by user s.queues)) then TooManyQueues else
+    Opened (next_queue s user salt) s.position
+reply_in reading s (Push first notices) =
+    if nat_lt (s.position + 1) first then Gap s.position first else
+    Pushed (max s.position (first + length notices - 1))
+reply_in reading s (Finish queue parts) =
+    if is_opening_phase (s.account queue).phase
+    then missing_or (first_missing all_sections (s.account queue).asked parts) parts
+    (if nat_lt s.position (needed (s.account queue).asked parts) then NotPushed s.position (needed (s.account queue).asked parts) parts else
+    Finished (state_with (sections_from (reading queue.user (s.account queue) s.position parts))) (id_of (s.account queue).next) s.position)
     else BadQueue
-reply_in all state (Poll user queue after) =
-    if is_live_phase (state.phase queue) && same_user queue.user user
-    then (if nat_lt (state.given queue) (count_of after) then NotSent (id_of (state.given queue)) else
-    if is_below_all after || nat_lt (count_of after) (state.pruned queue) then Pruned (id_of (state.pruned queue)) else
-    if nat_lt (count_of after) (length (stream_in all state queue))
-    then Answer (numbered (count_of after) (drop (count_of after) (stream_in all state queue))) state.position
-    else Empty state.position)
+reply_in reading s (Poll user queue after moment beat) =
+    if is_live_phase (s.account queue).phase && same_user queue.user user
+    then (if nat_lt (s.account queue).given (count_of after) then NotSent (id_of (s.account queue).given) else
+    if is_below_all after || nat_lt (count_of after) (s.account queue).pruned then Pruned (id_of (s.account queue).pruned) else
+    if is_empty (items_to_give (count_of after) beat (s.account queue)) then Empty s.position
+    else Answer (shown_items (items_to_give (count_of after) beat (s.account queue))) s.position)
     else BadQueue
-reply_in all state (Delete user queue) =
-    if is_held_in state queue && same_user queue.user user then Deleted else BadQueue
-reply_in all state Locate = At state.position
+reply_in reading s (Delete user queue) = if is_held (s.account queue) && same_user queue.user user then Deleted else BadQueue
+reply_in reading s (Tick moment) = Ticked (expiries s moment)
+reply_in reading s Locate = At s.position
 
 -- a choice between two facts on a reply makes the reply a choice
-choice_is : (test : Bool) (P Q : Type 0) (reply one other : ShardReply) → (P → reply ≡ one) → (Q → reply ≡ other)
-    → MatchBool test P Q → reply ≡ (if test then one else other)
+choice_is : (test : Bool) (P Q : Type 0) (reply one other : ShardReply) → (P → full_reply reply ≡ one) → (Q → full_reply reply ≡ other)
+    → MatchBool test P Q → full_reply reply ≡ (if test then one else other)
 choice_is true P Q reply one other from_one from_other choice = from_one choice
 choice_is false P Q reply one other from_one from_other choice = from_other choice
 
+missing_is : (missing : Option Section) (parts : List FetchedSection) (P : Type 0) (reply next : ShardReply) → (P → full_reply reply ≡ next)
+    → MatchOption missing P (λ which. reply ≡ MissingSection which parts) → full_reply reply ≡ missing_or missing parts next
+missing_is None parts P reply next from choice = from choice
+missing_is (Some which) parts P reply next from choice = ap full_reply choice
+
 -- a reply is right, or memory was wanting
-remembered : (reply right : ShardReply) → reply ≢ NoMemory → OrNoMemory reply (reply ≡ right) → reply ≡ right
-remembered reply right memory (inl is) = is
-remembered reply right memory (inr is) = absurd (memory is)
+remembered : (reply right : ShardReply) → full_reply right ≡ right → reply ≢ NoMemory → OrNoMemory reply (reply ≡ right) → full_reply reply ≡ right
+remembered reply right full memory (inl is) = ap full_reply is ∙ full
+remembered reply right full memory (inr is) = absurd (memory is)
+
+-- a finish that ends a registration
+finished_is : (user : UserId) (a : Account) (place : ℕ) (reading : Reading) (parts : List FetchedSection) (reply : ShardReply) → reply ≢ NoMemory
+    → OrNoMemory reply (IsFinished user a place reading parts reply)
+    → full_reply reply ≡ Finished (state_with (sections_from (reading user a place parts))) (id_of a.next) place
+finished_is user a place reading parts reply memory (inr is) = absurd (memory is)
+finished_is user a place reading parts (Finished state last reached) memory (inl is) =
+    let state_is = full_state_from state (reading user a place parts) is.0 in
+    let last_is = is.1 in
+    let reached_is = is.2 in
+    λ i. Finished (state_is i) (last_is i) (reached_is i)
+finished_is user a place reading parts reply memory (inl is) = absurd is
 
 -- a right reply of a shard is that one
-pub reply_is : (all : List Accepted) (before : List ShardStep) (input : ShardInput) (reply : ShardReply)
-    → ShardAnswers (changes_stream all) (viewed all) before input reply → reply ≢ NoMemory → reply ≡ reply_in all (state_of before) input
-reply_is all before (Start user) reply answers memory =
-    choice_is (nat_le all_opens (length (opened user before))) _ _ reply OpensSpent _ (λ is. is)
-    (choice_is (nat_le all_held (held user before)) _ _ reply TooManyQueues
-    (Opened (record { user = user; number = length (opened user before); salt = 0 }) (position before)) (λ is. is) (remembered reply _ memory))
+pub reply_is : (reading : Reading) (s : ShardAccount) (input : ShardInput) (reply : ShardReply)
+    → ShardAnswers s reading input reply → reply ≢ NoMemory → full_reply reply ≡ reply_in reading s input
+reply_is reading s (Start user salt moment types asked) reply answers memory =
+    choice_is (nat_le max_opens (s.opens user)) _ _ reply OpensSpent _ (λ is. ap full_reply is)
+    (choice_is (nat_le max_held (length (opened_by user s.queues))) _ _ reply TooManyQueues
+    (Opened (next_queue s user salt) s.position) (λ is. ap full_reply is) (remembered reply _ refl memory))
     answers
-reply_is all before (Push first notices) reply answers memory =
-    choice_is (nat_lt (position before + 1) first) _ _ reply (Gap (position before) first)
-    (Pushed (max (position before) (first + length notices - 1))) (λ is. is) (remembered reply _ memory) answers
-reply_is all before (Finish queue part) reply answers memory =
-    choice_is (is_opening queue before) _ _ reply _ BadQueue
-    (choice_is (nat_lt (position before) part.at) _ _ reply (NotPushed (position before) part.at part)
-    (Finished (viewed all queue before part) (id_of (length (changes_stream all queue before))) (position before)) (λ is. is) (remembered reply _ memory))
-    (λ is. is) answers
-reply_is all before (Poll user queue after) reply answers memory =
-    let events = changes_stream all queue before in
-    let acknowledged = count_of after in
-    choice_is (is_live queue before && same_user queue.user user) _ _ reply _ BadQueue
-    (choice_is (nat_lt (given queue before) acknowledged) _ _ reply (NotSent (id_of (given queue before))) _ (λ is. is)
-    (choice_is (is_below_all after || nat_lt acknowledged (pruned queue before)) _ _ reply (Pruned (id_of (pruned queue before))) _ (λ is. is)
-    (choice_is (nat_lt acknowledged (length events)) _ _ reply
-    (Answer (numbered acknowledged (drop acknowledged events)) (position before)) (Empty (position before)) (remembered reply _ memory) (λ is. is))))
-    (λ is. is) answers
-reply_is all before (Delete user queue) reply answers memory =
-    choice_is (is_held queue before && same_user queue.user user) _ _ reply Deleted BadQueue (λ is. is) (λ is. is) answers
-reply_is all before Locate reply answers memory = answers
+reply_is reading s (Push first notices) reply answers memory =
+    choice_is (nat_lt (s.position + 1) first) _ _ reply (Gap s.position first)
+    (Pushed (max s.position (first + length notices - 1))) (λ is. ap full_reply is) (remembered reply _ refl memory) answers
+reply_is reading s (Finish queue parts) reply answers memory =
+    let a = s.account queue in
+    choice_is (is_opening_phase a.phase) _ _ reply _ BadQueue
+    (missing_is (first_missing all_sections a.asked parts) parts _ reply _
+    (choice_is (nat_lt s.position (needed a.asked parts)) _ _ reply (NotPushed s.position (needed a.asked parts) parts) _ (λ is. ap full_reply is)
+    (finished_is queue.user a s.position reading parts reply memory)))
+    (λ is. ap full_reply is) answers
+reply_is reading s (Poll user queue after moment beat) reply answers memory =
+    let a = s.account queue in
+    choice_is (is_live_phase a.phase && same_user queue.user user) _ _ reply _ BadQueue
+    (choice_is (nat_lt a.given (count_of after)) _ _ reply (NotSent (id_of a.given)) _ (λ is. ap full_reply is)
+    (choice_is (is_below_all after || nat_lt (count_of after) a.pruned) _ _ reply (Pruned (id_of a.pruned)) _ (λ is. ap full_reply is)
+    (choice_is (is_empty (items_to_give (count_of after) beat a)) _ _ reply (Empty s.position)
+    (Answer (shown_items (items_to_give (count_of after) beat a)) s.position) (λ is. ap full_reply is) (remembered reply _ refl memory))))
+    (λ is. ap full_reply is) answers
+reply_is reading s (Delete user queue) reply answers memory =
+    choice_is (is_held (s.account queue) && same_user queue.user user) _ _ reply Deleted BadQueue (λ is. ap full_reply is) (λ is. ap full_reply is) answers
+reply_is reading s (Tick moment) reply answers memory = remembered reply (Ticked (expiries s moment)) refl memory answers
+reply_is reading s Locate reply answers memory = ap full_reply answers
 
 -- the refusal, or the other reply
 abbrev pub refused_or : Option Refusal → RealmReply → RealmReply
 refused_or None next = next
 refused_or (Some why) next = realm_reply.Refused why
 
--- the reply of the realm to a command, and to a fetch
+-- the reply of the realm to a command
 abbrev pub commit_reply : List Accepted → UserId → Command → RealmReply
 commit_reply before actor command =
-    refused_or (refusal (length before) (tables before) actor command) (realm_reply.Committed (length before + 1) (made_by (tables before) command))
-
-abbrev pub fetch_reply : List Accepted → UserId → RealmReply
-fetch_reply before user =
-    if is_active_user (tables before) user then realm_reply.Section (view_of user (tables before)) (length before) else realm_reply.FetchRefused
+    refused_or (refusal (state_of before) actor command)
+    (realm_reply.Committed (record { number = length before + 1; id = made_by (state_of before) command; changed = changed_by (state_of before).tables actor command }))
 
 -- a reply that was given is that of the choice
-committed_among : (why : Option Refusal) (number place : ℕ) (id made : Option ℕ) → why ≡ None → number ≡ place → id ≡ made
-    → realm_reply.Committed number id ≡ refused_or why (realm_reply.Committed place made)
-committed_among None number place id made none number_is id_is = cc
-committed_among (Some why) number place id made none number_is id_is = cc
-
-section_among : (active : Bool) (rows view : Rows) (at place : ℕ) → active ≡ true → rows ≡ view → at ≡ place
-    → realm_reply.Section rows at ≡ (if active then realm_reply.Section view place else realm_reply.FetchRefused)
-section_among true rows view at place is rows_are at_is = cc
-section_among false rows view at place is rows_are at_is = cc
+committed_among : (why : Option Refusal) (reply other : Committed) → why ≡ None → reply ≡ other
+    → realm_reply.Committed reply ≡ refused_or why (realm_reply.Committed other)
+committed_among None reply other none is = ap realm_reply.Committed is
+committed_among (Some why) reply other none is = cc
 
 -- right replies of the realm are those
-pub committed_is : (before : List RealmStep) (actor : UserId) (command : Command) (number : ℕ) (id : Option ℕ)
-    → RealmAnswers before (realm.Commit actor command) (realm_reply.Committed number id)
-    → realm_reply.Committed number id ≡ commit_reply (commands before) actor command
-committed_is before actor command number id answers =
+pub committed_is : (before : List RealmStep) (actor : UserId) (moment : ℕ) (command : Command) (reply : Committed)
+    → RealmAnswers before (realm.Commit actor moment command) (realm_reply.Committed reply)
+    → realm_reply.Committed reply ≡ commit_reply (commands before) actor command
+committed_is before actor moment command reply answers =
     let all = commands before in
-    committed_among (refusal (length all) (tables all) actor command) number (length all + 1) id (made_by (tables all) command) answers.0 answers.1 answers.2
+    let number_is = answers.1 in
+    let id_is = answers.2 in
+    let changed_is = answers.3 in
+    committed_among (refusal (state_of all) actor command) reply
+    (record { number = length all + 1; id = made_by (state_of all) command; changed = changed_by (state_of all).tables actor command }) answers.0
+    (λ i. record { number = number_is i; id = id_is i; changed = changed_is i })
 
-pub refused_is : (before : List RealmStep) (actor : UserId) (command : Command) (why : Refusal)
-    → RealmAnswers before (realm.Commit actor command) (realm_reply.Refused why)
+pub refused_is : (before : List RealmStep) (actor : UserId) (moment : ℕ) (command : Command) (why : Refusal)
+    → RealmAnswers before (realm.Commit actor moment command) (realm_reply.Refused why)
     → realm_reply.Refused why ≡ commit_reply (commands before) actor command
-refused_is before actor command why answers =
-    ap (λ reason. refused_or reason (realm_reply.Committed (length (commands before) + 1) (made_by (tables (commands before)) command))) (sym answers)
-
-pub section_is : (before : List RealmStep) (user : UserId) (rows : Rows) (at : ℕ)
-    → RealmAnswers before (realm.Fetch user) (realm_reply.Section rows at)
-    → realm_reply.Section rows at ≡ fetch_reply (commands before) user
-section_is before user rows at answers =
+refused_is before actor moment command why answers =
     let all = commands before in
-    section_among (is_active_user (tables all) user) rows (view_of user (tables all)) at (length all) answers.0 answers.1 answers.2
-
-pub fetch_refused_is : (before : List RealmStep) (user : UserId) → RealmAnswers before (realm.Fetch user) realm_reply.FetchRefused
-    → realm_reply.FetchRefused ≡ fetch_reply (commands before) user
-fetch_refused_is before user answers =
-    ap (λ active. if active then realm_reply.Section (view_of user (tables (commands before))) (length (commands before)) else realm_reply.FetchRefused) (sym answers)
+    ap (λ reason. refused_or reason (realm_reply.Committed (record { number = length all + 1; id = made_by (state_of all) command; changed = changed_by (state_of all).tables actor command })))
+    (sym answers)

@@ -1,187 +1,240 @@
--- What each line of a script does to the history, what it tells the clients, and that it keeps what is promised.
-use Rattle.std.proofs.Common.{◌≡◌, ℕ, ◌-◌, ◌<◌, ◌≤◌, ◌%◌, Bool, true, false, cond, Option, None, Some, option_map, List, [], ◌++◌, length, length-append, drop, drop_at, ℤ, refl, ap, ap₂, sym, subst, ◌∙◌, arith}
-use Rattle.std.proofs.lemmas.Bool.{false≢true, eqb-true, false_from_ne_true}
+-- What each line of a script does to the history, what it tells of the queues, and that it keeps what is promised.
+use Rattle.std.proofs.Common.{◌≡◌, ◌≢◌, ℕ, ◌+◌, ◌<◌, ◌≤◌, max, Bool, true, false, cond, Option, None, Some, option_map, List, [], ◌∷◌, ◌++◌, length, ℤ, refl, ap, sym, subst, ◌∙◌, inl, inr, arith, map}
+use Rattle.std.specs.Option.{option_map_or}
+use Rattle.std.proofs.lemmas.Bool.{false≢true, false_from_ne_true}
 use Rattle.ev_base.specs.declared.ids.UserId.{UserId}
 use Rattle.ev_base.specs.declared.ids.QueueId.{QueueId}
-use Rattle.zw_lines.specs.declared.people.Command.{Command as CommandOf}
-use Rattle.zw_lines.specs.declared.people.Item.{Item}
-use Rattle.zw_lines.specs.declared.realm.RealmInput.{RealmInput}
-use Rattle.zw_lines.specs.declared.realm.RealmInput.TheVariants as realm
-use Rattle.zw_lines.specs.declared.realm.RealmReply.{RealmReply}
-use Rattle.zw_lines.specs.declared.realm.RealmReply.TheVariants as realm_reply
-use Rattle.zw_lines.specs.declared.shard.Part.{Part}
-use Rattle.zw_lines.specs.declared.shard.ShardInput.{ShardInput}
-use Rattle.zw_lines.specs.declared.shard.ShardInput.TheVariants as shard
-use Rattle.zw_lines.specs.declared.shard.ShardReply.{ShardReply}
-use Rattle.zw_lines.specs.declared.shard.ShardReply.TheVariants as shard_reply
-use Rattle.zw_lines.specs.Tables.{is_active_user}
-use Rattle.zw_lines.specs.Views.{Rows}
-use Rattle.zw_lines.specs.RealmLine.{RealmStep, Accepted, IsLegalRealm, commands, commands_after, commits, announced, tables, first_of, tables_after, view_after}
-use Rattle.zw_lines.specs.ShardLine.{position, opened_at, same_user, same_queue, count_of}
-use Rattle.zw_lines.specs.Histories.{History, changes_stream, viewed, shard_of, line_at, with_realm_step, with_shard_step}
-use Rattle.zw_lines.proofs.LineLists.{IsAt}
-use Rattle.zw_lines.proofs.PollSteps.{answered_tells, empty_tells}
-use Rattle.zw_lines.proofs.RealmLines.{announced_within}
-use Rattle.zw_lines.proofs.ShardSteps.{same_queue_is, opened_tells, finished_tells}
+use Rattle.ev_types.specs.declared.event.Item.{Item}
+use Rattle.ev_types.specs.declared.kind.Types.{Types}
+use Rattle.ev_types.specs.declared.section.Section.{Section}
+use Rattle.ev_types.specs.declared.state.Rows.{Rows}
+use Rattle.ev_types.specs.declared.state.Rows.TheVariants as of_section
+use Rattle.ev_types.specs.declared.state.State.{State}
+use Rattle.ev_types.specs.Feeders.{covers}
+use Rattle.ev_types.specs.OneSection.{rows_of}
+use Rattle.ev_types.specs.Sections.{SomeSections, all_of, sections_of}
+use Rattle.zr_types.specs.declared.command.Command.{Command as CommandOf}
+use Rattle.zr_types.specs.declared.command.Committed.{Committed as CommitReply}
+use Rattle.zw_views.specs.Views.{section_of}
+use Rattle.zw_traces.specs.declared.realm.RealmInput.{RealmInput}
+use Rattle.zw_traces.specs.declared.realm.RealmInput.TheVariants as realm
+use Rattle.zw_traces.specs.declared.realm.RealmReply.{RealmReply}
+use Rattle.zw_traces.specs.declared.realm.RealmReply.TheVariants as realm_reply
+use Rattle.zw_traces.specs.declared.realm.RealmStep.{RealmStep}
+use Rattle.zw_traces.specs.declared.shard.FetchedSection.{FetchedSection}
+use Rattle.zw_traces.specs.declared.shard.ShardInput.{ShardInput}
+use Rattle.zw_traces.specs.declared.shard.ShardInput.TheVariants as shard
+use Rattle.zw_traces.specs.declared.shard.ShardReply.{ShardReply}
+use Rattle.zw_traces.specs.declared.shard.ShardReply.TheVariants as shard_reply
+use Rattle.zw_traces.specs.declared.shard.ShardStep.{ShardStep}
+use Rattle.zw_traces.specs.RealmTrace.{Accepted, IsLegalRealm, announced_count, commands, commands_after, commits, prefix_of, view_after, view_in}
+use Rattle.zw_traces.specs.RealmFeeds.{account_over, changed_events, viewed}
+use Rattle.zw_traces.specs.ShardTrace.{account_of, position_of, shard_account}
+use Rattle.zw_traces.specs.FetchedSections.{all_sections, needed}
+use Rattle.zw_traces.specs.Account.{count_of, same_queue, same_user}
+use Rattle.zw_traces.specs.Histories.{History, shard_of, trace_at, with_realm_step, with_shard_step}
+use Rattle.zw_traces.specs.Clients.{Client, may_take}
+use Rattle.zw_traces.proofs.RealmTraces.{announced_within}
+use Rattle.zw_traces.proofs.Steps.{answered_tells, empty_tells, finished_tells, opened_tells, same_queue_is, same_queue_itself, same_user_is}
 use Rattle.zs_script.specs.declared.step.Step.{Step}
-use Rattle.zs_script.specs.declared.step.Step.TheVariants.{Command, NoticeAll, Push, Register, Poll}
+use Rattle.zs_script.specs.declared.step.Step.TheVariants.{Command, NoticeAll, Push, Register, Poll, View}
 use Rattle.zm_text.specs.declared.outcome.Outcome.{Outcome}
-use Rattle.zm_text.specs.declared.outcome.Outcome.TheVariants.{Committed, Refused, Noticed, Pushed, Finished, OpensSpent, TooManyQueues, FetchRefused, Answered, Empty, BadQueue, NotSent, Pruned}
-use Rattle.zm_text.specs.Headline.{IsViewAt, Client, accepted_by, client_after, reached_by, items_by, take_in}
-use Rattle.zm_text.specs.Playing.{Plays, PlaysPush, PlaysRegister, PlaysRefusedFetch, serving, with_step_for}
-use Rattle.zm_laws.proofs.QueueClients.{FollowedOn, client_at, answered_now, empty_now}
-use Rattle.zm_laws.proofs.PlayedHistories.{Stood, Answered as AnsweredAt, answered_at, Following, following_realm, following_shard, IsBounded, Quiet, IsQuiet, quiet_then, quiet_realm, quiet_shard, quiet_pushes, quiet_catching_up, stood_before_realm, stood_before_shard}
+use Rattle.zm_text.specs.declared.outcome.Outcome.TheVariants.{Committed, Refused, Noticed, Pushed, Finished, OpensSpent, TooManyQueues, FetchRefused, Answered, Empty, BadQueue, NotSent, Pruned, Viewed}
+use Rattle.zm_text.specs.Clients.{Registration, client_after, is_among, is_taken, is_told, items_by, registration_after}
+use Rattle.zm_text.specs.Promises.{HasView, IsActive, IsSeen, accepted_by}
+use Rattle.zm_text.specs.Playing.{AreShown, CatchesUp, Plays, PlaysPush, PlaysRefusedFetch, PlaysRefusedRegister, PlaysRegister, PlaysView, Round, TakesAndPushes, moment, salt, sections, serving, with_fetches, with_opening, with_step_for}
+use Rattle.zw_laws.proofs.FedSteps.{length-with_step_at}
+use Rattle.zm_text.proofs.Fetches.{AllParts, fetched_parts, fetches_shards, part_in, parts_are}
+use Rattle.zm_laws.proofs.TraceLists.{IsAt, trace_at-same}
+use Rattle.zm_laws.proofs.QueueTurns.{IsFollowed, IsOpenedFor, followed_opening, followed_step}
+use Rattle.zm_laws.proofs.PlayedHistories.{Answered as AnsweredAt, FollowedOn, Following, IsBounded, IsQuiet, Known, Quiet, WasThere, answered_at, following_realm, following_shard, quiet_catching_up, quiet_fetches, quiet_pushes, quiet_realm, quiet_shard, quiet_then, there_before_realm, there_before_shard}
+use Rattle.zm_laws.proofs.TurnPromises.{TurnKeeps, answered_active, answered_seen, at_same, empty_seen, finished_active, finished_seen, registered_for}
 
--- what was accepted first, in a list with the latest first
-first_of-append : {X : Type 0} (later list : List X) (n : ℕ) → n ≡ length list → first_of n (later ++ list) ≡ list
-first_of-append later list n counted =
-    let longer = length-append later list in
-    let over : length (later ++ list) - n ≡ length later = omega arith in
-    ap (λ k. drop k (later ++ list)) over ∙ drop_at later list (length later) refl
+-- what is known after one line more, of which it is said whether what it tells arrives
+abbrev pub known_after : Bool → Step → Outcome → Known → Known
+known_after arrives step outcome known = record {
+  clients = λ queue which. client_after queue which arrives step outcome (known.clients queue which);
+  items = λ queue. items_by queue step outcome ++ known.items queue;
+  registrations = λ queue. registration_after queue step outcome (known.registrations queue);
+}
 
--- what is promised of one line, with what was accepted before it and what the clients had
-module _ (all : List Accepted) where
-  -- a register reply is the view, not before the commits at its line's start, of a user who is active then
-  pub record IsRegistered (user : UserId) (reached : ℕ) (queue : QueueId) (rows : Rows) (earlier : List Accepted) : Type 0 where
-    pub view : IsViewAt user reached earlier all rows
-    pub own : queue.user ≡ user
-    pub active : is_active_user (tables_after reached all) user ≡ true
-    pub recent : length earlier ≤ reached
+-- what is known after the opening of a queue
+abbrev known_opened : QueueId → Registration → Known → Known
+known_opened queue r known = record known { registrations = λ q. cond (same_queue q queue) (Some r) (known.registrations q) }
 
-  -- and of a line that registers nobody nothing
-  abbrev pub RegisterKeeps : Step → Outcome → List Accepted → Type 0
-  RegisterKeeps (Register user) (Finished reached queue last rows) earlier = IsRegistered user reached queue rows earlier
-  RegisterKeeps step outcome earlier = Unit {0}
+-- a line that commits, tells a client, or shows a view
+abbrev IsTelling : Step → Outcome → Bool
+IsTelling (Command actor command) (Committed number id) = true
+IsTelling (Register user types asked) (Finished reached queue last state) = true
+IsTelling (Poll user queue after beat) (Answered reached other items) = true
+IsTelling (Poll user queue after beat) (Empty reached) = true
+IsTelling (View user) (Viewed at state) = true
+IsTelling step outcome = false
 
-  -- each client that is answered has the view
-  abbrev pub HasView : QueueId → Step → Outcome → List Accepted → Option Client → ℕ → Type 0
-  HasView queue step outcome earlier before reached =
-      (client : Client) × (client_after queue step outcome before ≡ Some client) × IsViewAt queue.user reached earlier all client.rows
+-- a section that is there has its rows
+rows_are : {X : Type 0} (of : X → Rows) (there : Option X) (rows : X) → ((x y : X) → of x ≡ of y → x ≡ y)
+    → option_map of there ≡ Some (of rows) → there ≡ Some rows
+rows_are of None rows once is = cc
+rows_are of (Some x) rows once is = let same : of x ≡ of rows = cc in ap Some (once x rows same)
 
-  -- all that is promised of one line
-  pub record TurnKeeps (step : Step) (outcome : Outcome) (earlier : List Accepted) (clients : QueueId → Option Client) : Type 0 where
-    pub registered : RegisterKeeps step outcome earlier
-    pub followed : (queue : QueueId) (reached : ℕ) → reached_by queue step outcome ≡ Some reached
-        → HasView queue step outcome earlier (clients queue) reached
+-- all nine sections that are shown of a view are the view
+whole_is : (user : UserId) (at : ℕ) (state : SomeSections) (all : List Accepted)
+    → AreShown at state (map (part_in user (view_in user all) (length all)) all_sections) → state ≡ all_of (view_in user all)
+whole_is user at state all shown = λ i. record {
+  realm = rows_are of_section.Realm state.realm (view_in user all).realm (λ x y is. cc) shown.1 i;
+  realm_users = rows_are of_section.RealmUsers state.realm_users (view_in user all).realm_users (λ x y is. cc) shown.2.1 i;
+  streams = rows_are of_section.Streams state.streams (view_in user all).streams (λ x y is. cc) shown.2.2.1 i;
+  subscriptions = rows_are of_section.Subscriptions state.subscriptions (view_in user all).subscriptions (λ x y is. cc) shown.2.2.2.1 i;
+  subscribers = rows_are of_section.Subscribers state.subscribers (view_in user all).subscribers (λ x y is. cc) shown.2.2.2.2.1 i;
+  messages = rows_are of_section.Messages state.messages (view_in user all).messages (λ x y is. cc) shown.2.2.2.2.2.1 i;
+  reactions = rows_are of_section.Reactions state.reactions (view_in user all).reactions (λ x y is. cc) shown.2.2.2.2.2.2.1 i;
+  starred_messages = rows_are of_section.StarredMessages state.starred_messages (view_in user all).starred_messages (λ x y is. cc) shown.2.2.2.2.2.2.2.1 i;
+  unread_messages = rows_are of_section.UnreadMessages state.unread_messages (view_in user all).unread_messages (λ x y is. cc) shown.2.2.2.2.2.2.2.2.1 i;
+}
 
--- what holds of the queue that an answer names holds of each that is the same
-at_same : (q queue : QueueId) (n reached : ℕ) (P : QueueId → ℕ → Type 0) → P queue reached
-    → (same : Bool) → same_queue q queue ≡ same → cond same (Some reached) None ≡ Some n → (same ≡ true) × P q n
-at_same q queue n reached P holds true same_is is =
-    let number : reached ≡ n = cc in
-    (refl, subst (P q) number (subst (λ o. P o reached) (sym (same_queue_is q queue same_is)) holds))
-at_same q queue n reached P holds false same_is is = cc
+-- a state is the whole view of an active user after these commands
+pub record ShowsView (user : UserId) (at : ℕ) (state : SomeSections) (all : List Accepted) : Type 0 where
+  pub counted : at ≡ length all
+  pub seen : state ≡ all_of (view_in user all)
+  pub active : IsActive user all
 
--- the client of a register reply has the view
-registered_followed : (all : List Accepted) (user : UserId) (reached : ℕ) (queue : QueueId) (last : ℤ) (rows : Rows) (earlier : List Accepted) (clients : QueueId → Option Client)
-    → IsRegistered all user reached queue rows earlier
-    → (q : QueueId) (n : ℕ) → reached_by q (Register user) (Finished reached queue last rows) ≡ Some n
-    → HasView all q (Register user) (Finished reached queue last rows) earlier (clients q) n
-registered_followed all user reached queue last rows earlier clients registered q n is =
-    let given : Client = record { rows = rows; count = count_of last } in
-    let view = subst (λ reader. IsViewAt reader reached earlier all rows) (sym registered.own) registered.view in
-    let Has : QueueId → ℕ → Type 0 = λ o m. IsViewAt o.user m earlier all rows in
-    let moved = at_same q queue n reached Has view (same_queue q queue) refl is in
-    subst (λ same. (client : Client) × (cond same (Some given) (clients q) ≡ Some client) × IsViewAt q.user n earlier all client.rows) (sym moved.0) (given, refl, moved.1)
+pub shows_view : (user : UserId) (at : ℕ) (state : SomeSections) (all : List Accepted) (parts : List FetchedSection)
+    → sections parts ≡ all_sections → AreShown at state parts → AllParts user all parts → ShowsView user at state all
+shows_view user at state all parts in_order shown are =
+    let whole : parts ≡ map (part_in user (view_in user all) (length all)) all_sections =
+    parts_are user all parts are ∙ ap (map (part_in user (view_in user all) (length all))) in_order in
+    let shown_whole = subst (AreShown at state) whole shown in
+    let are_whole = subst (AllParts user all) whole are in
+    record { counted = sym shown_whole.0; seen = whole_is user at state all shown_whole; active = are_whole.0.active }
 
--- a line that commits, or answers a client
-abbrev IsTold : Step → Outcome → Bool
-IsTold (Command actor command) (Committed number id) = true
-IsTold (Register user) (Finished reached queue last rows) = true
-IsTold (Poll user queue after) (Answered reached other items) = true
-IsTold (Poll user queue after) (Empty reached) = true
-IsTold step outcome = false
+-- takes and pushes go up to what is needed
+pushes_reach : (index need have : ℕ) (rounds : List Round) (before : History) (reached : ℕ) (after : History)
+    → TakesAndPushes index need have rounds before reached after → index < length before.shards → position_of (trace_at index before.shards) ≡ have
+    → need ≤ position_of (trace_at index after.shards)
+pushes_reach index need have [] before reached after pushes inside stands =
+    let enough = pushes.0 in
+    let same = ap (λ (h : History). position_of (trace_at index h.shards)) pushes.2 in
+    omega arith
+pushes_reach index need have (round ∷ rounds) before reached after pushes inside stands =
+    let step : ShardStep = record { input = shard.Push (have + 1) round.notices; reply = shard_reply.Pushed round.position } in
+    let taken = with_realm_step (realm.Take (have + 1)) (realm_reply.Notices (have + 1) round.notices) before in
+    let pushed = with_shard_step index (shard.Push (have + 1) round.notices) (shard_reply.Pushed round.position) taken in
+    pushes_reach index need round.position rounds pushed reached after pushes.1
+    (omega (arith, inside, length-with_step_at index step before.shards))
+    (ap position_of (trace_at-same index step before.shards inside))
+
+catching_up_reaches : (index need have : ℕ) (before : History) (reached : ℕ) (after : History)
+    → CatchesUp index need have before reached after → index < length before.shards → position_of (trace_at index before.shards) ≡ have
+    → need ≤ position_of (trace_at index after.shards)
+catching_up_reaches index need have before reached after (inl none) inside stands =
+    let enough = none.0 in
+    let same = ap (λ (h : History). position_of (trace_at index h.shards)) none.2 in
+    omega arith
+catching_up_reaches index need have before reached after (inr pushes) inside stands =
+    pushes_reach index need have pushes.2 (with_realm_step realm.NoticeAll (realm_reply.Noticed pushes.1) before) reached after pushes.3 inside stands
 
 module _ (final : List RealmStep) (count : ℕ) (legal_final : IsLegalRealm final) where
-  -- what a line does to the history and its clients, and that it keeps what is promised
+  -- what a line does to the history and to what is known, and that it keeps what is promised
   pub record Turned (step : Step) (outcome : Outcome) (before after : History) : Type 0 where
-    pub stood : Stood final count before
+    pub there : WasThere final count before
     pub accepts : accepted_by step outcome (commands before.realm) ≡ commands after.realm
-    pub keeps : (clients : QueueId → Option Client) (items : QueueId → List Item) → Following final count legal_final clients items before
-        → Following final count legal_final (λ queue. client_after queue step outcome (clients queue)) (λ queue. items_by queue step outcome ++ items queue) after
-    pub promised : (clients : QueueId → Option Client) (items : QueueId → List Item) → Following final count legal_final clients items before
-        → TurnKeeps (commands final) step outcome (commands before.realm) clients
+    pub keeps : (arrives : Bool) (known : Known) → Following final count legal_final known before → Following final count legal_final (known_after arrives step outcome known) after
+    pub promised : (arrives : Bool) (known : Known) → Following final count legal_final known before
+        → TurnKeeps (commands final) arrives step outcome (commands before.realm) known
 
   -- a line that tells nothing and commits nothing
-  quiet_turn : (step : Step) (outcome : Outcome) (before after : History) → IsTold step outcome ≡ false
+  quiet_turn : (step : Step) (outcome : Outcome) (before after : History) → IsTelling step outcome ≡ false
       → Quiet final count legal_final before after → Turned step outcome before after
   quiet_turn (Command actor command) (Committed number id) before after not quiet = absurd (false≢true (sym not))
-  quiet_turn (Register user) (Finished reached queue last rows) before after not quiet = absurd (false≢true (sym not))
-  quiet_turn (Poll user queue asked) (Answered reached other items) before after not quiet = absurd (false≢true (sym not))
-  quiet_turn (Poll user queue asked) (Empty reached) before after not quiet = absurd (false≢true (sym not))
+  quiet_turn (Register user types asked) (Finished reached queue last state) before after not quiet = absurd (false≢true (sym not))
+  quiet_turn (Poll user queue asked beat) (Answered reached other items) before after not quiet = absurd (false≢true (sym not))
+  quiet_turn (Poll user queue asked beat) (Empty reached) before after not quiet = absurd (false≢true (sym not))
+  quiet_turn (View user) (Viewed at state) before after not quiet = absurd (false≢true (sym not))
   quiet_turn step outcome before after not quiet = record {
-    stood = quiet.stood;
+    there = quiet.there;
     accepts = sym quiet.same;
-    keeps = quiet.keeps;
-    promised = λ clients items following. record { registered = tt; followed = λ queue reached is. cc };
+    keeps = λ arrives known following. quiet.keeps known following;
+    promised = λ arrives known following. record { line = tt; followed = λ queue reached is. cc; active = λ queue reached is. cc };
   }
 
   -- a line that commits
-  committed_turn : (actor : UserId) (command : CommandOf) (number : ℕ) (id : Option ℕ) (before : History)
-      → Stood final count (with_realm_step (realm.Commit actor command) (realm_reply.Committed number id) before)
-      → Turned (Command actor command) (Committed number id) before (with_realm_step (realm.Commit actor command) (realm_reply.Committed number id) before)
-  committed_turn actor command number id before stood = record {
-    stood = stood_before_realm final count legal_final (realm.Commit actor command) (realm_reply.Committed number id) before stood;
+  committed_turn : (actor : UserId) (command : CommandOf) (number : ℕ) (id : Option ℕ) (reply : CommitReply) (before : History)
+      → WasThere final count (with_realm_step (realm.Commit actor moment command) (realm_reply.Committed reply) before)
+      → Turned (Command actor command) (Committed number id) before (with_realm_step (realm.Commit actor moment command) (realm_reply.Committed reply) before)
+  committed_turn actor command number id reply before there = record {
+    there = there_before_realm final count legal_final (realm.Commit actor moment command) (realm_reply.Committed reply) before there;
     accepts = refl;
-    keeps = λ clients items following. following_realm final count legal_final (realm.Commit actor command) (realm_reply.Committed number id) before clients items stood following;
-    promised = λ clients items following. record { registered = tt; followed = λ queue reached is. cc };
+    keeps = λ arrives known following. following_realm final count legal_final (realm.Commit actor moment command) (realm_reply.Committed reply) before known there following;
+    promised = λ arrives known following. record { line = tt; followed = λ queue reached is. cc; active = λ queue reached is. cc };
   }
 
   -- one quiet step of the realm, or of the shard that serves a user
-  realm_turn : (step : Step) (outcome : Outcome) (input : RealmInput) (reply : RealmReply) (before after : History) → IsTold step outcome ≡ false
+  realm_turn : (step : Step) (outcome : Outcome) (input : RealmInput) (reply : RealmReply) (before after : History) → IsTelling step outcome ≡ false
       → commands_after input reply (commands before.realm) ≡ commands before.realm
-      → after ≡ with_realm_step input reply before → Stood final count after → Turned step outcome before after
-  realm_turn step outcome input reply before after not same is stood =
+      → after ≡ with_realm_step input reply before → WasThere final count after → Turned step outcome before after
+  realm_turn step outcome input reply before after not same is there =
       subst (Turned step outcome before) (sym is)
-      (quiet_turn step outcome before (with_realm_step input reply before) not (quiet_realm final count legal_final input reply before same (subst (Stood final count) is stood)))
+      (quiet_turn step outcome before (with_realm_step input reply before) not (quiet_realm final count legal_final input reply before same (subst (WasThere final count) is there)))
 
-  serving_turn : (step : Step) (outcome : Outcome) (user : UserId) (input : ShardInput) (reply : ShardReply) (before after : History) → IsTold step outcome ≡ false
+  serving_turn : (step : Step) (outcome : Outcome) (user : UserId) (input : ShardInput) (reply : ShardReply) (before after : History) → IsTelling step outcome ≡ false
       → IsQuiet final count legal_final input reply → IsBounded final count legal_final (serving user before) input reply before
-      → after ≡ with_step_for user input reply before → Stood final count after → Turned step outcome before after
-  serving_turn step outcome user input reply before after not quiet bounded is stood =
+      → after ≡ with_step_for user input reply before → WasThere final count after → Turned step outcome before after
+  serving_turn step outcome user input reply before after not quiet bounded is there =
       subst (Turned step outcome before) (sym is)
-      (quiet_turn step outcome before (with_step_for user input reply before) not (quiet_shard final count legal_final (serving user before) input reply before quiet bounded (subst (Stood final count) is stood)))
+      (quiet_turn step outcome before (with_step_for user input reply before) not (quiet_shard final count legal_final (serving user before) input reply before quiet bounded (subst (WasThere final count) is there)))
 
-  -- a push, and a registration whose fetch is refused
-  push_turn : (index reached : ℕ) (before after : History) → PlaysPush index reached before after → Stood final count after
+  -- a push
+  push_turn : (index reached : ℕ) (before after : History) → PlaysPush index reached before after → WasThere final count after
       → Turned (Push index) (Pushed reached) before after
-  push_turn index reached before after plays stood =
+  push_turn index reached before after plays there =
       let located = with_shard_step index shard.Locate (shard_reply.At plays.have) before in
-      let pushes = quiet_pushes final count legal_final index (announced before.realm) plays.have plays.rounds located reached after plays.pushed stood in
+      let pushes = quiet_pushes final count legal_final index (announced_count before.realm) plays.have plays.rounds located reached after plays.pushed there in
       let locate = quiet_shard final count legal_final index shard.Locate (shard_reply.At plays.have) before
-      (record { no_client = λ queue client. refl; no_items = λ queue items. refl }) (λ answers within. within) pushes.stood in
+      (record { no_client = λ queue which given. refl; no_items = λ queue items. refl }) (λ answers within. within) pushes.there in
       quiet_turn (Push index) (Pushed reached) before after refl (quiet_then final count legal_final before located after locate pushes)
 
-  refused_fetch_turn : (user : UserId) (before after : History) → PlaysRefusedFetch user before after → Stood final count after
-      → Turned (Register user) FetchRefused before after
-  refused_fetch_turn user before after plays stood =
-      let started = with_step_for user (shard.Start user) (shard_reply.Opened plays.queue plays.have) before in
-      let refused = with_realm_step (realm.Fetch user) realm_reply.FetchRefused started in
-      let deleted = with_step_for user (shard.Delete user plays.queue) shard_reply.Deleted refused in
-      let delete = quiet_shard final count legal_final (serving user refused) (shard.Delete user plays.queue) shard_reply.Deleted refused
-      (record { no_client = λ queue client. refl; no_items = λ queue items. refl }) (λ answers within. within) (subst (Stood final count) plays.deletes stood) in
-      let refuse = quiet_realm final count legal_final (realm.Fetch user) realm_reply.FetchRefused started refl delete.stood in
-      let start = quiet_shard final count legal_final (serving user before) (shard.Start user) (shard_reply.Opened plays.queue plays.have) before
-      (record { no_client = λ queue client. refl; no_items = λ queue items. refl }) (λ answers within. within) refuse.stood in
-      subst (Turned (Register user) FetchRefused before) (sym plays.deletes)
-      (quiet_turn (Register user) FetchRefused before deleted refl
-      (quiet_then final count legal_final before started deleted start (quiet_then final count legal_final started refused deleted refuse delete)))
+  -- fetches of which one is refused
+  quiet_refused_fetch : (user : UserId) (asked : List Section) (before after : History) → PlaysRefusedFetch user asked before after → WasThere final count after
+      → Quiet final count legal_final before after
+  quiet_refused_fetch user asked before after plays there =
+      let fetched = with_fetches user plays.parts before in
+      let refuse = quiet_realm final count legal_final (realm.Fetch user plays.which) realm_reply.FetchRefused fetched refl (subst (WasThere final count) plays.refused there) in
+      subst (Quiet final count legal_final before) (sym plays.refused)
+      (quiet_then final count legal_final before fetched (with_realm_step (realm.Fetch user plays.which) realm_reply.FetchRefused fetched)
+      (quiet_fetches final count legal_final user plays.parts before refuse.there) refuse)
+
+  refused_register_turn : (user : UserId) (types : Types) (asked : List Section) (before after : History) → PlaysRefusedRegister user types asked before after → WasThere final count after
+      → Turned (Register user types asked) FetchRefused before after
+  refused_register_turn user types asked before after plays there =
+      let started = with_opening user types asked plays.queue plays.have before in
+      let deleted = with_step_for user (shard.Delete user plays.queue) shard_reply.Deleted plays.given_up in
+      let delete = quiet_shard final count legal_final (serving user plays.given_up) (shard.Delete user plays.queue) shard_reply.Deleted plays.given_up
+      (record { no_client = λ queue which given. refl; no_items = λ queue items. refl }) (λ answers within. within) (subst (WasThere final count) plays.deletes there) in
+      let refuse = quiet_refused_fetch user asked started plays.given_up plays.fetches delete.there in
+      let start = quiet_shard final count legal_final (serving user before) (shard.Start user salt moment types asked) (shard_reply.Opened plays.queue plays.have) before
+      (record { no_client = λ queue which given. refl; no_items = λ queue items. refl }) (λ answers within. within) refuse.there in
+      subst (Turned (Register user types asked) FetchRefused before) (sym plays.deletes)
+      (quiet_turn (Register user types asked) FetchRefused before deleted refl
+      (quiet_then final count legal_final before started deleted start (quiet_then final count legal_final started plays.given_up deleted refuse delete)))
 
   -- the shard that serves a user is there
-  serving_inside : (user : UserId) (history : History) → Stood final count history → 1 ≤ count
+  pub serving_inside : (user : UserId) (history : History) → WasThere final count history → 1 ≤ count
       → (serving user history < length history.shards) × (serving user history < count)
-  serving_inside user history stood some =
-      let sized = stood.sized in
+  serving_inside user history there some =
+      let sized = there.sized in
       let inside : serving user history < length history.shards = omega arith in
       (inside, omega arith)
 
-  -- the view at a shard's position is one at a commit that stood
-  view_at_position : (user : UserId) (queue : QueueId) (history : History) (reached : ℕ) → reached ≡ position (line_at (serving user history) history.shards)
-      → Stood final count history → position (line_at (serving user history) history.shards) ≤ announced history.realm
-      → IsViewAt queue.user reached (commands history.realm) (commands final) (view_after queue.user (position (line_at (serving user history) history.shards)) (commands final))
-  view_at_position user queue history reached reached_is stood announced_only =
-      let committed = announced_within history.realm stood.legal in
-      record { stood = omega arith; view = ap (λ n. view_after queue.user n (commands final)) (sym reached_is) }
+  pub serving_is : (user : UserId) (history : History) → WasThere final count history → serving user history ≡ shard_of count user
+  serving_is user history there = ap (λ n. shard_of n user) there.sized
+
+  -- a shard's position is a number of commits that were made
+  position_made : (index reached : ℕ) (known : Known) (history : History) → WasThere final count history → Following final count legal_final known history
+      → reached ≡ position_of (trace_at index history.shards) → reached ≤ commits history.realm
+  position_made index reached known history there following is =
+      let committed = announced_within history.realm there.legal in
+      let low = following.announced_only index in
+      omega arith
 
   -- a queue of a user that another shard serves is another queue
   other_queue : (i : ℕ) (queue other : QueueId) → shard_of count other.user ≡ i → i < count → (IsAt count i (shard_of count queue.user) → ⊥)
@@ -189,216 +242,364 @@ module _ (final : List RealmStep) (count : ℕ) (legal_final : IsLegalRealm fina
   other_queue i queue other served inside not =
       false_from_ne_true (same_queue queue other) (λ same. not (ap (λ q. shard_of count q.user) (same_queue_is queue other same) ∙ served, inside))
 
-  -- a registration up to its finish: quiet steps, over what was committed at the line's start
-  record Registering (user : UserId) (queue : QueueId) (need : ℕ) (before caught : History) : Type 0 where
-    quiet : Quiet final count legal_final before caught
-    own : 1 ≤ count → queue.user ≡ user
-    active : is_active_user (tables (commands before.realm)) user ≡ true
-    need_is : need ≡ commits before.realm
+  -- a view
+  view_turn : (user : UserId) (at : ℕ) (state : State) (before after : History) → PlaysView user at (sections_of state) before after → WasThere final count after
+      → Turned (View user) (Viewed at state) before after
+  view_turn user at state before after plays there =
+      let fetched = subst (WasThere final count) plays.fetches there in
+      let quiet = quiet_fetches final count legal_final user plays.parts before fetched in
+      let shows = shows_view user at (sections_of state) (commands before.realm) plays.parts plays.in_order plays.shown (fetched_parts user plays.parts before fetched.legal) in
+      subst (Turned (View user) (Viewed at state) before) (sym plays.fetches)
+      (record {
+        there = quiet.there;
+        accepts = sym quiet.same;
+        keeps = λ arrives known following. quiet.keeps known following;
+        promised = λ arrives known following. record {
+          line = record { counted = shows.counted; seen = shows.seen; active = shows.active };
+          followed = λ queue reached is. cc;
+          active = λ queue reached is. cc;
+        };
+      })
 
-  -- what the steps of a registration before its finish tell
-  registering : (user : UserId) (queue : QueueId) (last : ℤ) (rows : Rows) (reached : ℕ) (before after : History)
-      → (plays : PlaysRegister user queue last rows reached before after) → Stood final count plays.caught
-      → Registering user queue plays.part.at before plays.caught
-  registering user queue last rows reached before after plays stood =
-      let started = with_step_for user (shard.Start user) (shard_reply.Opened queue plays.have) before in
-      let fetched = with_realm_step (realm.Fetch user) (realm_reply.Section plays.part.rows plays.part.at) started in
-      let rest = quiet_catching_up final count legal_final (serving user before) plays.part.at plays.have fetched plays.position plays.caught plays.catches_up stood in
-      let fetch = quiet_realm final count legal_final (realm.Fetch user) (realm_reply.Section plays.part.rows plays.part.at) started refl rest.stood in
-      let start = quiet_shard final count legal_final (serving user before) (shard.Start user) (shard_reply.Opened queue plays.have) before
-      (record { no_client = λ q client. refl; no_items = λ q items. refl }) (λ answers within. within) fetch.stood in
-      record {
-        quiet = quiet_then final count legal_final before started plays.caught start (quiet_then final count legal_final started fetched plays.caught fetch rest);
-        own = λ some.
-            let opens = answered_at final count legal_final (serving user before) (shard.Start user) (shard_reply.Opened queue plays.have) before fetch.stood (serving_inside user before start.stood some).0 in
-            ap (λ q. q.user) (opened_tells (changes_stream (commands final)) (viewed (commands final)) (line_at (serving user before) before.shards) user queue plays.have opens.answers).0;
-        active = rest.stood.legal.0.0;
-        need_is = rest.stood.legal.0.2;
-      }
+  module _ (user : UserId) (types : Types) (asked : List Section) where
+    -- a registration up to its finish
+    record Registering (queue : QueueId) (before caught : History) : Type 0 where
+      quiet : Quiet final count legal_final before caught
+      opens : (known : Known) → Following final count legal_final known before
+          → Following final count legal_final (known_opened queue (record { types = types; asked = asked }) known) caught
+      own : 1 ≤ count → queue.user ≡ user
+      recent : 1 ≤ count → commits before.realm ≤ position_of (trace_at (serving user caught) caught.shards)
 
-  module _ (user : UserId) (reached : ℕ) (queue : QueueId) (last : ℤ) (rows : Rows) (part : Part) (caught : History)
-      (stood : Stood final count (with_step_for user (shard.Finish queue part) (shard_reply.Finished rows last reached) caught)) where
-    -- the history before the finish, and what the finish tells
-    stood_caught : Stood final count caught
-    stood_caught = stood_before_shard final count legal_final (serving user caught) (shard.Finish queue part) (shard_reply.Finished rows last reached) caught stood
+    -- the opening of its queue
+    module _ (queue : QueueId) (have : ℕ) (before : History) (there : WasThere final count (with_opening user types asked queue have before)) where
+      pub there_started : WasThere final count before
+      there_started = there_before_shard final count legal_final (serving user before) (shard.Start user salt moment types asked) (shard_reply.Opened queue have) before there
 
-    finished_at : 1 ≤ count → AnsweredAt final count (serving user caught) (shard.Finish queue part) (shard_reply.Finished rows last reached) (line_at (serving user caught) caught.shards)
-    finished_at some = answered_at final count legal_final (serving user caught) (shard.Finish queue part) (shard_reply.Finished rows last reached) caught stood (serving_inside user caught stood_caught some).0
+      opening_at : 1 ≤ count → AnsweredAt final count (serving user before) (shard.Start user salt moment types asked) (shard_reply.Opened queue have) (trace_at (serving user before) before.shards)
+      opening_at some = answered_at final count legal_final (serving user before) (shard.Start user salt moment types asked) (shard_reply.Opened queue have) before there (serving_inside user before there_started some).0
 
-    -- the finish gives its queue's client the view
-    finished_keeps : (clients : QueueId → Option Client) (items : QueueId → List Item) → Following final count legal_final clients items caught
-        → Following final count legal_final (λ q. client_after q (Register user) (Finished reached queue last rows) (clients q)) items (with_step_for user (shard.Finish queue part) (shard_reply.Finished rows last reached) caught)
-    finished_keeps clients items following =
-        let finish = finished_at following.some in
-        let inside = (serving_inside user caught stood_caught following.some).1 in
-        let given : Client = record { rows = rows; count = count_of last } in
-        following_shard final count legal_final (serving user caught) (shard.Finish queue part) (shard_reply.Finished rows last reached) caught clients
-        (λ q. client_after q (Register user) (Finished reached queue last rows) (clients q)) items items
-        (record {
-          client_is = λ q. refl;
-          items_are = λ q. refl;
-          elsewhere = λ q not. (ap (λ same. cond same (Some given) (clients q)) (other_queue (serving user caught) q queue finish.served inside not), refl);
-        })
-        (λ answers within. within) stood following
+      pub opening_tells : 1 ≤ count → (queue.user ≡ user) × (have ≡ position_of (trace_at (serving user before) before.shards))
+      opening_tells some =
+          let tells = opened_tells (shard_account (changed_events (commands final)) (trace_at (serving user before) before.shards)) (viewed (commands final)) user salt moment types asked queue have (opening_at some).answers in
+          (ap (λ q. q.user) tells.0, tells.1)
 
-    -- and keeps what is promised of it
-    finished_is : (clients : QueueId → Option Client) (items : QueueId → List Item) (before : History) → Registering user queue part.at before caught
-        → Following final count legal_final clients items caught → IsRegistered (commands final) user reached queue rows (commands before.realm)
-    finished_is clients items before flow following =
-        let all = commands final in
-        let finish = finished_at following.some in
-        let line = line_at (serving user caught) caught.shards in
-        let tells = finished_tells (changes_stream all) (viewed all) line queue part rows last reached finish.answers in
-        let needed = tells.part_pushed in
-        let announced_only = following.announced_only (serving user caught) in
-        let committed = announced_within caught.realm stood_caught.legal in
-        let same = ap length flow.quiet.same in
-        let need_is = flow.need_is in
-        let reached_is = tells.reached_is in
-        let whole : reached ≡ length (commands before.realm) = omega arith in
-        let own = flow.own following.some in
-        let then_is = ap tables (ap (first_of reached) flow.quiet.stood.ends ∙ first_of-append flow.quiet.stood.later (commands before.realm) reached whole) in
+      opening_known : (known : Known) → Following final count legal_final known before
+          → Following final count legal_final (known_opened queue (record { types = types; asked = asked }) known) (with_opening user types asked queue have before)
+      opening_known known following =
+          let i = serving user before in
+          let r : Registration = record { types = types; asked = asked } in
+          let served = ap (shard_of count) (opening_tells following.some).0 ∙ sym (serving_is user before there_started) in
+          let inside = (serving_inside user before there_started following.some).1 in
+          following_shard final count legal_final i (shard.Start user salt moment types asked) (shard_reply.Opened queue have) before known (known_opened queue r known)
+          (record {
+            here = λ q trace belongs inner. followed_opening final q trace user salt moment types asked queue have (known.clients q) (known.items q) (known.registrations q) belongs.legal inner;
+            elsewhere = λ q trace not inner.
+                subst (λ same. IsFollowed final q (known.clients q) (known.items q) (cond same (Some r) (known.registrations q)) trace) (sym (other_queue i q queue served inside not)) inner;
+          })
+          (λ answers within. within) there following
+
+    -- what the steps of a registration before its finish tell
+    registering : (queue : QueueId) (reply : ShardReply) (before after : History) (plays : PlaysRegister user types asked queue reply before after)
+        → WasThere final count plays.caught → Registering queue before plays.caught
+    registering queue reply before after plays there =
+        let index = serving user before in
+        let need = max (needed asked plays.parts) (commits before.realm) in
+        let started = with_opening user types asked queue plays.have before in
+        let fetched = with_fetches user plays.parts started in
+        let rest = quiet_catching_up final count legal_final index need plays.have fetched plays.position plays.caught plays.catches_up there in
+        let fetch = quiet_fetches final count legal_final user plays.parts started rest.there in
+        let start = quiet_shard final count legal_final index (shard.Start user salt moment types asked) (shard_reply.Opened queue plays.have) before
+        (record { no_client = λ q which given. refl; no_items = λ q items. refl }) (λ answers within. within) fetch.there in
+        let on = quiet_then final count legal_final started fetched plays.caught fetch rest in
         record {
-          view = record {
-            stood = omega arith;
-            view = tells.rows_are ∙ ap₂ (λ reader n. view_after reader n all) own (sym reached_is);
-          };
-          own = own;
-          active = ap (λ users. is_active_user users user) then_is ∙ flow.active;
-          recent = omega arith;
+          quiet = quiet_then final count legal_final before started plays.caught start on;
+          opens = λ known following. on.keeps (known_opened queue (record { types = types; asked = asked }) known) (opening_known queue plays.have before fetch.there known following);
+          own = λ some. (opening_tells queue plays.have before fetch.there some).0;
+          recent = λ some.
+              let step : ShardStep = record { input = shard.Start user salt moment types asked; reply = shard_reply.Opened queue plays.have } in
+              let inside = (serving_inside user before start.there some).0 in
+              let shards_are = fetches_shards user plays.parts started in
+              let place = sym (opening_tells queue plays.have before fetch.there some).1 in
+              let stands : position_of (trace_at index fetched.shards) ≡ plays.have =
+              ap (λ (traces : List (List ShardStep)). position_of (trace_at index traces)) shards_are
+              ∙ ap position_of (trace_at-same index step before.shards inside) ∙ place in
+              let long = ap length shards_are in
+              let grown = length-with_step_at index step before.shards in
+              let reach = catching_up_reaches index need plays.have fetched plays.position plays.caught plays.catches_up (omega arith) stands in
+              let here = ap (λ (n : ℕ). position_of (trace_at n plays.caught.shards)) (serving_is user plays.caught there ∙ sym (serving_is user before start.there)) in
+              omega arith;
         }
 
-  -- a line that registers
-  register_turn : (user : UserId) (reached : ℕ) (queue : QueueId) (last : ℤ) (rows : Rows) (before after : History)
-      → PlaysRegister user queue last rows reached before after → Stood final count after
-      → Turned (Register user) (Finished reached queue last rows) before after
-  register_turn user reached queue last rows before after plays stood =
-      let stood_finished = subst (Stood final count) plays.finishes stood in
-      let flow = registering user queue last rows reached before after plays (stood_caught user reached queue last rows plays.part plays.caught stood_finished) in
-      record {
-        stood = flow.quiet.stood;
-        accepts = sym (ap (λ history. commands history.realm) plays.finishes ∙ flow.quiet.same);
-        keeps = λ clients items following.
-            subst (Following final count legal_final (λ q. client_after q (Register user) (Finished reached queue last rows) (clients q)) items) (sym plays.finishes)
-            (finished_keeps user reached queue last rows plays.part plays.caught stood_finished clients items (flow.quiet.keeps clients items following));
-        promised = λ clients items following.
-            let keeps = finished_is user reached queue last rows plays.part plays.caught stood_finished clients items before flow (flow.quiet.keeps clients items following) in
-            record { registered = keeps; followed = registered_followed (commands final) user reached queue last rows (commands before.realm) clients keeps };
-      }
+    module _ (reached : ℕ) (queue : QueueId) (last : ℤ) (state : State) (parts : List FetchedSection) (caught : History)
+        (there : WasThere final count (with_step_for user (shard.Finish queue parts) (shard_reply.Finished state last reached) caught)) where
+      -- the history before the finish, and what the finish tells
+      there_caught : WasThere final count caught
+      there_caught = there_before_shard final count legal_final (serving user caught) (shard.Finish queue parts) (shard_reply.Finished state last reached) caught there
 
-  module _ (user : UserId) (queue : QueueId) (asked : ℤ) (before : History) (reply : ShardReply)
-      (stood : Stood final count (with_step_for user (shard.Poll user queue asked) reply before)) where
+      finished_at : 1 ≤ count → AnsweredAt final count (serving user caught) (shard.Finish queue parts) (shard_reply.Finished state last reached) (trace_at (serving user caught) caught.shards)
+      finished_at some = answered_at final count legal_final (serving user caught) (shard.Finish queue parts) (shard_reply.Finished state last reached) caught there (serving_inside user caught there_caught some).0
+
+      -- the finish gives its queue's clients the view
+      finished_keeps : (arrives : Bool) (known : Known) → Following final count legal_final (known_opened queue (record { types = types; asked = asked }) known) caught
+          → Following final count legal_final (known_after arrives (Register user types asked) (Finished reached queue last state) known) (with_step_for user (shard.Finish queue parts) (shard_reply.Finished state last reached) caught)
+      finished_keeps arrives known following =
+          let i = serving user caught in
+          let finish = finished_at following.some in
+          let inside = (serving_inside user caught there_caught following.some).1 in
+          let opened = known_opened queue (record { types = types; asked = asked }) known in
+          let later = known_after arrives (Register user types asked) (Finished reached queue last state) known in
+          following_shard final count legal_final i (shard.Finish queue parts) (shard_reply.Finished state last reached) caught opened later
+          (record {
+            here = λ q trace belongs inner.
+                followed_step final q arrives trace (shard.Finish queue parts) (shard_reply.Finished state last reached) (opened.clients q) (opened.items q) (opened.registrations q) belongs.legal inner;
+            elsewhere = λ q trace not inner.
+                let clients : Bool → Section → Option Client = λ same which.
+                cond same (option_map (λ rows. record { rows = rows; count = count_of last }) (rows_of which (sections_of state))) (known.clients q which) in
+                subst (λ same. IsFollowed final q (clients same) (opened.items q) (opened.registrations q) trace) (sym (other_queue i q queue finish.served inside not)) inner;
+          })
+          (λ answers within. within) there following
+
+      -- what the account of the queue says at the finish
+      opened_here : (known : Known) → queue.user ≡ user → Following final count legal_final (known_opened queue (record { types = types; asked = asked }) known) caught
+          → IsOpenedFor (record { types = types; asked = asked }) (account_over final queue (trace_at (serving user caught) caught.shards))
+      opened_here known own following =
+          let r : Registration = record { types = types; asked = asked } in
+          let here = ap (shard_of count) own ∙ sym (serving_is user caught there_caught) in
+          let at_shard = (following.followed queue).opened r (ap (λ same. cond same (Some r) (known.registrations queue)) (same_queue_itself queue)) in
+          subst (λ n. IsOpenedFor r (account_over final queue (trace_at n caught.shards))) here at_shard
+
+      -- and keeps what is promised of it
+      finished_is : (arrives : Bool) (known : Known) (before : History) → Registering queue before caught
+          → Following final count legal_final (known_opened queue (record { types = types; asked = asked }) known) caught
+          → TurnKeeps (commands final) arrives (Register user types asked) (Finished reached queue last state) (commands before.realm) known
+      finished_is arrives known before flow following =
+          let r : Registration = record { types = types; asked = asked } in
+          let i = serving user caught in
+          let trace = trace_at i caught.shards in
+          let all = commands final in
+          let earlier = commands before.realm in
+          let opened = known_opened queue r known in
+          let finish = finished_at following.some in
+          let tells = finished_tells queue.user (account_of (changed_events all) queue trace) (position_of trace) (viewed all) parts state last reached finish.answers in
+          let own = flow.own following.some in
+          let recent = flow.recent following.some in
+          let reached_is = tells.reached_is in
+          let same = ap length flow.quiet.same in
+          let made_now = position_made i reached opened caught there_caught following reached_is in
+          let made : reached ≤ length earlier = omega arith in
+          let opened_for = opened_here known own following in
+          let seen = finished_seen final count (0 + i) legal_final queue trace parts state last reached finish.belongs r opened_for in
+          let active = finished_active final count (0 + i) legal_final queue trace parts state last reached finish.belongs r opened_for in
+          let Gives : QueueId → ℕ → Type 0 = λ o m. (which : Section) → option_map_or (is_told which) (Some r) false ≡ true
+          → HasView o.user which m earlier all (option_map (λ rows. record { rows = rows; count = count_of last }) (rows_of which (sections_of state))) in
+          let IsOf : QueueId → ℕ → Type 0 = λ o m. asked ≢ [] → IsActive o.user (prefix_of m all) in
+          let gives : Gives queue reached = λ which tells.
+          let for = registered_for which (Some r) tells in
+          let it : r ≡ for.r = cc in
+          let rows_are = seen which (ap (λ (x : Registration). is_among x.asked which) it ∙ for.among) (ap (λ (x : Registration). covers x.types which) it ∙ for.covered) in
+          record { made = made; has = record { rows = section_of which (view_after queue.user reached all); count = count_of last }; is = ap (option_map (λ rows. record { rows = rows; count = count_of last })) rows_are; seen = refl } in
+          record {
+            line = record {
+              recent = record { own = own; made = made; recent = omega arith };
+              fresh = λ which among covered. subst (λ reader. IsSeen reader which reached all (rows_of which (sections_of state))) own (seen which among covered);
+            };
+            followed = λ q n is which told takes.
+                let moved = at_same q queue n reached Gives gives (same_queue q queue) refl is in
+                finished_gives q n which moved.0 moved.1 told;
+            active = λ q n is registration known_is some.
+                let moved = at_same q queue n reached IsOf active (same_queue q queue) refl is in
+                finished_of q n registration moved.0 moved.1 known_is some;
+          }
+        where
+          finished_gives : (q : QueueId) (n : ℕ) (which : Section) → same_queue q queue ≡ true
+              → ((which : Section) → option_map_or (is_told which) (Some (record { types = types; asked = asked })) false ≡ true
+              → HasView q.user which n (commands before.realm) (commands final) (option_map (λ rows. record { rows = rows; count = count_of last }) (rows_of which (sections_of state))))
+              → option_map_or (is_told which) (cond (same_queue q queue) (Some (record { types = types; asked = asked })) (known.registrations q)) false ≡ true
+              → HasView q.user which n (commands before.realm) (commands final) (cond (same_queue q queue) (option_map (λ rows. record { rows = rows; count = count_of last }) (rows_of which (sections_of state))) (known.clients q which))
+          finished_gives q n which same gives told =
+              let r : Registration = record { types = types; asked = asked } in
+              let told_now = subst (λ s. option_map_or (is_told which) (cond s (Some r) (known.registrations q)) false ≡ true) same told in
+              subst (λ s. HasView q.user which n (commands before.realm) (commands final) (cond s (option_map (λ rows. record { rows = rows; count = count_of last }) (rows_of which (sections_of state))) (known.clients q which))) (sym same)
+              (gives which told_now)
+
+          finished_of : (q : QueueId) (n : ℕ) (registration : Registration) → same_queue q queue ≡ true → (asked ≢ [] → IsActive q.user (prefix_of n (commands final)))
+              → cond (same_queue q queue) (Some (record { types = types; asked = asked })) (known.registrations q) ≡ Some registration → registration.asked ≢ []
+              → IsActive q.user (prefix_of n (commands final))
+          finished_of q n registration same active is some =
+              let r : Registration = record { types = types; asked = asked } in
+              let known_now = subst (λ s. cond s (Some r) (known.registrations q) ≡ Some registration) same is in
+              let it : r ≡ registration = cc in
+              active (λ none. some (sym (ap (λ (x : Registration). x.asked) it) ∙ none))
+
+    -- a line that registers
+    register_turn : (reached : ℕ) (queue : QueueId) (last : ℤ) (state : State) (before after : History)
+        → PlaysRegister user types asked queue (shard_reply.Finished state last reached) before after → WasThere final count after
+        → Turned (Register user types asked) (Finished reached queue last state) before after
+    register_turn reached queue last state before after plays there =
+        let there_finished = subst (WasThere final count) plays.finishes there in
+        let flow = registering queue (shard_reply.Finished state last reached) before after plays (there_caught reached queue last state plays.parts plays.caught there_finished) in
+        subst (Turned (Register user types asked) (Finished reached queue last state) before) (sym plays.finishes)
+        (record {
+          there = flow.quiet.there;
+          accepts = sym flow.quiet.same;
+          keeps = λ arrives known following. finished_keeps reached queue last state plays.parts plays.caught there_finished arrives known (flow.opens known following);
+          promised = λ arrives known following. finished_is reached queue last state plays.parts plays.caught there_finished arrives known before flow (flow.opens known following);
+        })
+
+    -- and one whose queue is gone by its finish
+    lost_register_turn : (queue : QueueId) (before after : History) → PlaysRegister user types asked queue shard_reply.BadQueue before after → WasThere final count after
+        → Turned (Register user types asked) BadQueue before after
+    lost_register_turn queue before after plays there =
+        let lost = with_step_for user (shard.Finish queue plays.parts) shard_reply.BadQueue plays.caught in
+        let finish = quiet_shard final count legal_final (serving user plays.caught) (shard.Finish queue plays.parts) shard_reply.BadQueue plays.caught
+        (record { no_client = λ q which given. refl; no_items = λ q items. refl }) (λ answers within. within) (subst (WasThere final count) plays.finishes there) in
+        let flow = registering queue shard_reply.BadQueue before after plays finish.there in
+        subst (Turned (Register user types asked) BadQueue before) (sym plays.finishes)
+        (quiet_turn (Register user types asked) BadQueue before lost refl (quiet_then final count legal_final before plays.caught lost flow.quiet finish))
+
+  module _ (user : UserId) (queue : QueueId) (asked : ℤ) (beat : Bool) (before : History) (reply : ShardReply)
+      (there : WasThere final count (with_step_for user (shard.Poll user queue asked moment beat) reply before)) where
     -- the history before a poll, and what the poll tells
-    stood_polled : Stood final count before
-    stood_polled = stood_before_shard final count legal_final (serving user before) (shard.Poll user queue asked) reply before stood
+    there_polled : WasThere final count before
+    there_polled = there_before_shard final count legal_final (serving user before) (shard.Poll user queue asked moment beat) reply before there
 
-    polled_at : 1 ≤ count → AnsweredAt final count (serving user before) (shard.Poll user queue asked) reply (line_at (serving user before) before.shards)
-    polled_at some = answered_at final count legal_final (serving user before) (shard.Poll user queue asked) reply before stood (serving_inside user before stood_polled some).0
+    polled_at : 1 ≤ count → AnsweredAt final count (serving user before) (shard.Poll user queue asked moment beat) reply (trace_at (serving user before) before.shards)
+    polled_at some = answered_at final count legal_final (serving user before) (shard.Poll user queue asked moment beat) reply before there (serving_inside user before there_polled some).0
 
-    -- the queue of a user is in the line of the shard that serves the user
-    queue_there : 1 ≤ count → same_user queue.user user ≡ true → shard_of count queue.user ≡ serving user before
-    queue_there some own = ap (λ n. n % count) (eqb-true queue.user.0 user.0 own) ∙ (polled_at some).served
+    -- the queue of a user is in the trace of the shard that serves the user
+    queue_there : same_user queue.user user ≡ true → shard_of count queue.user ≡ serving user before
+    queue_there own = ap (shard_of count) (same_user_is queue.user user own) ∙ sym (serving_is user before there_polled)
+
+    followed_here : (known : Known) → same_user queue.user user ≡ true → Following final count legal_final known before
+        → FollowedOn final count legal_final known queue (trace_at (serving user before) before.shards)
+    followed_here known own following =
+        subst (λ n. FollowedOn final count legal_final known queue (trace_at n before.shards)) (queue_there own) (following.followed queue)
 
   -- a poll that is answered, with items or with none
-  answered_turn : (user : UserId) (queue : QueueId) (asked : ℤ) (reached : ℕ) (items : List Item) (before : History)
-      → Stood final count (with_step_for user (shard.Poll user queue asked) (shard_reply.Answer items reached) before)
-      → Turned (Poll user queue asked) (Answered reached queue items) before (with_step_for user (shard.Poll user queue asked) (shard_reply.Answer items reached) before)
-  answered_turn user queue asked reached items before stood = record {
-    stood = stood_polled user queue asked before (shard_reply.Answer items reached) stood;
+  answered_turn : (user : UserId) (queue : QueueId) (asked : ℤ) (beat : Bool) (reached : ℕ) (items : List Item) (before : History)
+      → WasThere final count (with_step_for user (shard.Poll user queue asked moment beat) (shard_reply.Answer items reached) before)
+      → Turned (Poll user queue asked beat) (Answered reached queue items) before (with_step_for user (shard.Poll user queue asked moment beat) (shard_reply.Answer items reached) before)
+  answered_turn user queue asked beat reached items before there = record {
+    there = there_polled user queue asked beat before (shard_reply.Answer items reached) there;
     accepts = refl;
-    keeps = λ clients shown following.
-        let some = following.some in
-        let poll = polled_at user queue asked before (shard_reply.Answer items reached) stood some in
-        let tells = answered_tells (changes_stream (commands final)) (viewed (commands final)) (line_at (serving user before) before.shards) user queue asked items reached poll.answers in
-        let there = queue_there user queue asked before (shard_reply.Answer items reached) stood some tells.polling.own in
-        let inside = (serving_inside user before (stood_polled user queue asked before (shard_reply.Answer items reached) stood) some).1 in
-        following_shard final count legal_final (serving user before) (shard.Poll user queue asked) (shard_reply.Answer items reached) before clients
-        (λ q. client_after q (Poll user queue asked) (Answered reached queue items) (clients q)) shown
-        (λ q. items_by q (Poll user queue asked) (Answered reached queue items) ++ shown q)
+    keeps = λ arrives known following.
+        let i = serving user before in
+        let poll = polled_at user queue asked beat before (shard_reply.Answer items reached) there following.some in
+        let tells = answered_tells queue.user (account_of (changed_events (commands final)) queue (trace_at i before.shards)) (position_of (trace_at i before.shards)) user asked beat items reached poll.answers in
+        let here = queue_there user queue asked beat before (shard_reply.Answer items reached) there tells.polling.own in
+        let inside = (serving_inside user before (there_polled user queue asked beat before (shard_reply.Answer items reached) there) following.some).1 in
+        following_shard final count legal_final i (shard.Poll user queue asked moment beat) (shard_reply.Answer items reached) before known
+        (known_after arrives (Poll user queue asked beat) (Answered reached queue items) known)
         (record {
-          client_is = λ q. refl;
-          items_are = λ q. refl;
-          elsewhere = λ q not.
-              let other = other_queue (serving user before) q queue there inside not in
-              (ap (λ same. cond same (option_map (take_in items) (clients q)) (clients q)) other, ap (λ same. cond same items [] ++ shown q) other);
+          here = λ q trace belongs inner.
+              followed_step final q arrives trace (shard.Poll user queue asked moment beat) (shard_reply.Answer items reached) (known.clients q) (known.items q) (known.registrations q) belongs.legal inner;
+          elsewhere = λ q trace not inner.
+              let clients : Bool → Section → Option Client = λ same which. cond same (option_map (may_take arrives (count_of asked) items) (known.clients q which)) (known.clients q which) in
+              subst (λ same. IsFollowed final q (clients same) (cond same items [] ++ known.items q) (known.registrations q) trace) (sym (other_queue i q queue here inside not)) inner;
         })
-        (λ answers within. within) stood following;
-    promised = λ clients shown following.
+        (λ answers within. within) there following;
+    promised = λ arrives known following.
+        let i = serving user before in
         let all = commands final in
-        let some = following.some in
-        let line = line_at (serving user before) before.shards in
-        let poll = polled_at user queue asked before (shard_reply.Answer items reached) stood some in
-        let tells = answered_tells (changes_stream all) (viewed all) line user queue asked items reached poll.answers in
-        let there = queue_there user queue asked before (shard_reply.Answer items reached) stood some tells.polling.own in
-        let at_line = subst (λ n. FollowedOn final queue (clients queue) (shown queue) (line_at n before.shards)) there (following.followed queue) in
-        let now = answered_now final queue line user asked items reached (clients queue) poll.within at_line.lives poll.answers in
-        let given = client_at final queue (opened_at queue line) (position line) in
-        let reached_is = tells.at_position in
-        let view = view_at_position user queue before reached reached_is (stood_polled user queue asked before (shard_reply.Answer items reached) stood) (following.announced_only (serving user before)) in
+        let earlier = commands before.realm in
+        let trace = trace_at i before.shards in
+        let reply = shard_reply.Answer items reached in
+        let poll = polled_at user queue asked beat before reply there following.some in
+        let tells = answered_tells queue.user (account_of (changed_events all) queue trace) (position_of trace) user asked beat items reached poll.answers in
+        let followed = followed_here user queue asked beat before reply there known tells.polling.own following in
+        let made = position_made i reached known before (there_polled user queue asked beat before reply there) following tells.reached_is in
+        let Gives : QueueId → ℕ → Type 0 = λ o m. (which : Section) → option_map_or (is_told which) (known.registrations o) false ≡ true
+        → is_taken arrives (Poll user queue asked beat) (known.clients o which) ≡ true
+        → HasView o.user which m earlier all (option_map (may_take arrives (count_of asked) items) (known.clients o which)) in
+        let IsOf : QueueId → ℕ → Type 0 = λ o m. (r : Registration) → known.registrations o ≡ Some r → r.asked ≢ [] → IsActive o.user (prefix_of m all) in
+        let gives : Gives queue reached = λ which told takes.
+        let for = registered_for which (known.registrations queue) told in
+        answered_seen final count (0 + i) legal_final queue trace arrives user asked moment beat reached earlier made which (known.clients queue which)
+        (followed.has which) for.r (followed.opened for.r for.is) for.among for.covered takes items poll.belongs in
+        let active : IsOf queue reached = λ r is some.
+        answered_active final count (0 + i) legal_final queue trace user asked moment beat reply reached poll.belongs refl r (followed.opened r is) some in
         record {
-          registered = tt;
-          followed = λ q n is.
-              let Has : QueueId → ℕ → Type 0 = λ o m. (client : Client) × (option_map (take_in items) (clients o) ≡ Some client) × IsViewAt o.user m (commands before.realm) all client.rows in
-              let moved = at_same q queue n reached Has (given, now.client_is, view) (same_queue q queue) refl is in
-              subst (λ same. (client : Client) × (cond same (option_map (take_in items) (clients q)) (clients q) ≡ Some client) × IsViewAt q.user n (commands before.realm) all client.rows) (sym moved.0) moved.1;
+          line = tt;
+          followed = λ q n is which told takes.
+              let moved = at_same q queue n reached Gives gives (same_queue q queue) refl is in
+              subst (λ same. HasView q.user which n earlier all (cond same (option_map (may_take arrives (count_of asked) items) (known.clients q which)) (known.clients q which))) (sym moved.0)
+              (moved.1 which told takes);
+          active = λ q n is registration known_is some. (at_same q queue n reached IsOf active (same_queue q queue) refl is).1 registration known_is some;
         };
   }
 
-  empty_turn : (user : UserId) (queue : QueueId) (asked : ℤ) (reached : ℕ) (before : History)
-      → Stood final count (with_step_for user (shard.Poll user queue asked) (shard_reply.Empty reached) before)
-      → Turned (Poll user queue asked) (Empty reached) before (with_step_for user (shard.Poll user queue asked) (shard_reply.Empty reached) before)
-  empty_turn user queue asked reached before stood =
-      let quiet = quiet_shard final count legal_final (serving user before) (shard.Poll user queue asked) (shard_reply.Empty reached) before
-      (record { no_client = λ q client. refl; no_items = λ q shown. refl }) (λ answers within. within) stood in
+  empty_turn : (user : UserId) (queue : QueueId) (asked : ℤ) (beat : Bool) (reached : ℕ) (before : History)
+      → WasThere final count (with_step_for user (shard.Poll user queue asked moment beat) (shard_reply.Empty reached) before)
+      → Turned (Poll user queue asked beat) (Empty reached) before (with_step_for user (shard.Poll user queue asked moment beat) (shard_reply.Empty reached) before)
+  empty_turn user queue asked beat reached before there =
+      let quiet = quiet_shard final count legal_final (serving user before) (shard.Poll user queue asked moment beat) (shard_reply.Empty reached) before
+      (record { no_client = λ q which given. refl; no_items = λ q items. refl }) (λ answers within. within) there in
       record {
-        stood = quiet.stood;
+        there = quiet.there;
         accepts = refl;
-        keeps = quiet.keeps;
-        promised = λ clients shown following.
+        keeps = λ arrives known following. quiet.keeps known following;
+        promised = λ arrives known following.
+            let i = serving user before in
             let all = commands final in
-            let some = following.some in
-            let line = line_at (serving user before) before.shards in
-            let poll = polled_at user queue asked before (shard_reply.Empty reached) stood some in
-            let tells = empty_tells (changes_stream all) (viewed all) line user queue asked reached poll.answers in
-            let there = queue_there user queue asked before (shard_reply.Empty reached) stood some tells.polling.own in
-            let at_line = subst (λ n. FollowedOn final queue (clients queue) (shown queue) (line_at n before.shards)) there (following.followed queue) in
-            let now = empty_now final queue line user asked reached (clients queue) poll.within at_line.lives poll.answers in
-            let given = client_at final queue (opened_at queue line) (position line) in
-            let reached_is = tells.at_position in
-            let view = view_at_position user queue before reached reached_is quiet.stood (following.announced_only (serving user before)) in
+            let earlier = commands before.realm in
+            let trace = trace_at i before.shards in
+            let reply = shard_reply.Empty reached in
+            let poll = polled_at user queue asked beat before reply there following.some in
+            let tells = empty_tells queue.user (account_of (changed_events all) queue trace) (position_of trace) user asked beat reached poll.answers in
+            let followed = followed_here user queue asked beat before reply there known tells.polling.own following in
+            let made = position_made i reached known before quiet.there following tells.reached_is in
+            let Gives : QueueId → ℕ → Type 0 = λ o m. (which : Section) → option_map_or (is_told which) (known.registrations o) false ≡ true
+            → is_taken arrives (Poll user queue asked beat) (known.clients o which) ≡ true
+            → HasView o.user which m earlier all (known.clients o which) in
+            let IsOf : QueueId → ℕ → Type 0 = λ o m. (r : Registration) → known.registrations o ≡ Some r → r.asked ≢ [] → IsActive o.user (prefix_of m all) in
+            let gives : Gives queue reached = λ which told takes.
+            let for = registered_for which (known.registrations queue) told in
+            empty_seen final count (0 + i) legal_final queue trace arrives user asked moment beat reached earlier made which (known.clients queue which)
+            (followed.has which) for.r (followed.opened for.r for.is) for.among for.covered takes poll.belongs in
+            let active : IsOf queue reached = λ r is some.
+            answered_active final count (0 + i) legal_final queue trace user asked moment beat reply reached poll.belongs refl r (followed.opened r is) some in
             record {
-              registered = tt;
-              followed = λ q n is.
-                  let Has : QueueId → ℕ → Type 0 = λ o m. (client : Client) × (clients o ≡ Some client) × IsViewAt o.user m (commands before.realm) all client.rows in
-                  (at_same q queue n reached Has (given, now, view) (same_queue q queue) refl is).1;
+              line = tt;
+              followed = λ q n is which told takes. (at_same q queue n reached Gives gives (same_queue q queue) refl is).1 which told takes;
+              active = λ q n is registration known_is some. (at_same q queue n reached IsOf active (same_queue q queue) refl is).1 registration known_is some;
             };
       }
 
   -- each line that is played
-  pub turned : (step : Step) (outcome : Outcome) (before after : History) → Plays step outcome before after → Stood final count after
+  pub turned : (step : Step) (outcome : Outcome) (before after : History) → Plays step outcome before after → WasThere final count after
       → Turned step outcome before after
-  turned (Command actor command) (Committed number id) before after plays stood =
-      subst (Turned (Command actor command) (Committed number id) before) (sym plays) (committed_turn actor command number id before (subst (Stood final count) plays stood))
-  turned (Command actor command) (Refused why) before after plays stood =
-      realm_turn (Command actor command) (Refused why) (realm.Commit actor command) (realm_reply.Refused why) before after refl refl plays stood
-  turned NoticeAll (Noticed noticed) before after plays stood =
-      realm_turn NoticeAll (Noticed noticed) realm.NoticeAll (realm_reply.Noticed noticed) before after refl refl plays stood
-  turned (Push index) (Pushed reached) before after plays stood = push_turn index reached before after plays stood
-  turned (Register user) (Finished reached queue last rows) before after plays stood = register_turn user reached queue last rows before after plays stood
-  turned (Register user) OpensSpent before after plays stood =
-      serving_turn (Register user) OpensSpent user (shard.Start user) shard_reply.OpensSpent before after refl (record { no_client = λ q client. refl; no_items = λ q items. refl }) (λ answers within. within) plays stood
-  turned (Register user) TooManyQueues before after plays stood =
-      serving_turn (Register user) TooManyQueues user (shard.Start user) shard_reply.TooManyQueues before after refl (record { no_client = λ q client. refl; no_items = λ q items. refl }) (λ answers within. within) plays stood
-  turned (Register user) FetchRefused before after plays stood = refused_fetch_turn user before after plays stood
-  turned (Poll user queue asked) (Answered reached other items) before after plays stood =
-      subst (λ o. Turned (Poll user queue asked) (Answered reached o items) before after) (sym plays.0)
-      (subst (Turned (Poll user queue asked) (Answered reached queue items) before) (sym plays.1) (answered_turn user queue asked reached items before (subst (Stood final count) plays.1 stood)))
-  turned (Poll user queue asked) (Empty reached) before after plays stood =
-      subst (Turned (Poll user queue asked) (Empty reached) before) (sym plays) (empty_turn user queue asked reached before (subst (Stood final count) plays stood))
-  turned (Poll user queue asked) BadQueue before after plays stood =
-      serving_turn (Poll user queue asked) BadQueue user (shard.Poll user queue asked) shard_reply.BadQueue before after refl (record { no_client = λ q client. refl; no_items = λ q items. refl }) (λ answers within. within) plays stood
-  turned (Poll user queue asked) (NotSent greatest) before after plays stood =
-      serving_turn (Poll user queue asked) (NotSent greatest) user (shard.Poll user queue asked) (shard_reply.NotSent greatest) before after refl (record { no_client = λ q client. refl; no_items = λ q items. refl }) (λ answers within. within) plays stood
-  turned (Poll user queue asked) (Pruned newest) before after plays stood =
-      serving_turn (Poll user queue asked) (Pruned newest) user (shard.Poll user queue asked) (shard_reply.Pruned newest) before after refl (record { no_client = λ q client. refl; no_items = λ q items. refl }) (λ answers within. within) plays stood
-  turned step outcome before after plays stood = absurd plays
+  turned (Command actor command) (Committed number id) before after plays there =
+      subst (Turned (Command actor command) (Committed number id) before) (sym plays.3)
+      (committed_turn actor command number id plays.0 before (subst (WasThere final count) plays.3 there))
+  turned (Command actor command) (Refused why) before after plays there =
+      realm_turn (Command actor command) (Refused why) (realm.Commit actor moment command) (realm_reply.Refused why) before after refl refl plays there
+  turned NoticeAll (Noticed noticed) before after plays there =
+      realm_turn NoticeAll (Noticed noticed) realm.NoticeAll (realm_reply.Noticed noticed) before after refl refl plays there
+  turned (Push index) (Pushed reached) before after plays there = push_turn index reached before after plays there
+  turned (Register user types asked) (Finished reached queue last state) before after plays there = register_turn user types asked reached queue last state before after plays there
+  turned (Register user types asked) BadQueue before after plays there = lost_register_turn user types asked plays.0 before after plays.1 there
+  turned (Register user types asked) OpensSpent before after plays there =
+      serving_turn (Register user types asked) OpensSpent user (shard.Start user salt moment types asked) shard_reply.OpensSpent before after refl
+      (record { no_client = λ q which given. refl; no_items = λ q items. refl }) (λ answers within. within) plays there
+  turned (Register user types asked) TooManyQueues before after plays there =
+      serving_turn (Register user types asked) TooManyQueues user (shard.Start user salt moment types asked) shard_reply.TooManyQueues before after refl
+      (record { no_client = λ q which given. refl; no_items = λ q items. refl }) (λ answers within. within) plays there
+  turned (Register user types asked) FetchRefused before after plays there = refused_register_turn user types asked before after plays there
+  turned (Poll user queue asked beat) (Answered reached other items) before after plays there =
+      subst (λ o. Turned (Poll user queue asked beat) (Answered reached o items) before after) (sym plays.0)
+      (subst (Turned (Poll user queue asked beat) (Answered reached queue items) before) (sym plays.1) (answered_turn user queue asked beat reached items before (subst (WasThere final count) plays.1 there)))
+  turned (Poll user queue asked beat) (Empty reached) before after plays there =
+      subst (Turned (Poll user queue asked beat) (Empty reached) before) (sym plays) (empty_turn user queue asked beat reached before (subst (WasThere final count) plays there))
+  turned (Poll user queue asked beat) BadQueue before after plays there =
+      serving_turn (Poll user queue asked beat) BadQueue user (shard.Poll user queue asked moment beat) shard_reply.BadQueue before after refl
+      (record { no_client = λ q which given. refl; no_items = λ q items. refl }) (λ answers within. within) plays there
+  turned (Poll user queue asked beat) (NotSent greatest) before after plays there =
+      serving_turn (Poll user queue asked beat) (NotSent greatest) user (shard.Poll user queue asked moment beat) (shard_reply.NotSent greatest) before after refl
+      (record { no_client = λ q which given. refl; no_items = λ q items. refl }) (λ answers within. within) plays there
+  turned (Poll user queue asked beat) (Pruned newest) before after plays there =
+      serving_turn (Poll user queue asked beat) (Pruned newest) user (shard.Poll user queue asked moment beat) (shard_reply.Pruned newest) before after refl
+      (record { no_client = λ q which given. refl; no_items = λ q items. refl }) (λ answers within. within) plays there
+  turned (View user) (Viewed at state) before after plays there = view_turn user at state before after plays there
+  turned (View user) FetchRefused before after plays there =
+      quiet_turn (View user) FetchRefused before after refl (quiet_refused_fetch user all_sections before after plays there)
+  turned step outcome before after plays there = absurd plays

@@ -1,99 +1,74 @@
 -- What a history leaves for later steps, as one value, and what the latest step of a legal one says of it.
-use Rattle.std.proofs.Common.{◌≡◌, ◌≢◌, ℕ, zero, suc, ◌+◌, ◌<◌, List, [], ◌∷◌, length, map, ap, ◌∙◌, arith}
-use Rattle.zw_lines.specs.declared.realm.RealmInput.{RealmInput}
-use Rattle.zw_lines.specs.declared.realm.RealmReply.{RealmReply}
-use Rattle.zw_lines.specs.declared.shard.ShardInput.{ShardInput}
-use Rattle.zw_lines.specs.declared.shard.ShardReply.{ShardReply}
-use Rattle.zw_lines.specs.declared.shard.ShardReply.TheVariants.{NoMemory}
-use Rattle.zw_lines.specs.RealmLine.{RealmStep, Accepted, IsLegalRealm, commands, announced}
-use Rattle.zw_lines.specs.ShardLine.{ShardStep, ShardAnswers, IsLegalShardBy}
-use Rattle.zw_lines.specs.Histories.{History, IsLegalHistory, AllBelong, changes_stream, viewed, line_at, with_step_at, with_realm_step, with_shard_step}
-use Rattle.zm_laws.proofs.LineStates.{LineState, state_of, state_after, state_at, changed_at, state_at-lines, states_after}
-use Rattle.zm_laws.proofs.OneReply.{reply_in, reply_is}
+use Rattle.std.proofs.Common.{◌≡◌, ◌≢◌, ℕ, ◌<◌, List, [], ◌∷◌, length, map, refl, ap, sym, ◌∙◌}
+use Rattle.ev_base.specs.declared.ids.UserId.{UserId}
+use Rattle.zw_traces.specs.declared.realm.RealmStep.{RealmStep}
+use Rattle.zw_traces.specs.declared.shard.FetchedSection.{FetchedSection}
+use Rattle.zw_traces.specs.declared.shard.ShardInput.{ShardInput}
+use Rattle.zw_traces.specs.declared.shard.ShardReply.{ShardReply}
+use Rattle.zw_traces.specs.declared.shard.ShardReply.TheVariants.{NoMemory}
+use Rattle.zw_traces.specs.RealmTrace.{Accepted, IsLegalRealm, announced_count, commands}
+use Rattle.zw_traces.specs.RealmFeeds.{changed_events, viewed}
+use Rattle.zw_traces.specs.ShardTrace.{position_of}
+use Rattle.zw_traces.specs.Histories.{History, trace_at, with_shard_step}
+use Rattle.zm_text.specs.Playing.{with_fetch, with_fetches}
+use Rattle.zm_laws.proofs.TraceStates.{TraceState, account_in, changed_at, state_after, state_at, state_at-traces, state_of, states_after}
+use Rattle.zm_laws.proofs.OneReply.{full_reply, reply_in, reply_is}
+use Rattle.zm_laws.proofs.PlayedHistories.{WasThere, answered_at}
 
--- the accepted commands, what was announced, and the states of the shards' lines
+-- the accepted commands, what was announced, and the states of the shards' traces
 pub record Standing : Type 0 where
   pub commands : List Accepted
   pub announced : ℕ
-  pub states : List LineState
-
--- what a history leaves
-abbrev pub standing_of : History → Standing
-standing_of history = record {
-  commands = commands history.realm;
-  announced = announced history.realm;
-  states = map state_of history.shards;
-}
+  pub states : List TraceState
 
 -- one shard's state changes
-abbrev pub with_change : ℕ → (LineState → LineState) → Standing → Standing
+abbrev pub with_change : ℕ → (TraceState → TraceState) → Standing → Standing
 with_change index change before = record before { states = changed_at index change before.states }
 
--- as it does by a step
-abbrev pub with_step : ℕ → ShardInput → ShardReply → Standing → Standing
-with_step index input reply before = with_change index (state_after input reply) before
-
--- what one more step of a shard leaves
-pub standing_after : (index : ℕ) (input : ShardInput) (reply : ShardReply) (history : History)
-    → standing_of (with_shard_step index input reply history) ≡ with_step index input reply (standing_of history)
-standing_after index input reply history =
-    ap (λ (states : List LineState). record { commands = commands history.realm; announced = announced history.realm; states = states })
-    (states_after index (record { input = input; reply = reply }) history.shards)
-
+-- all commands of a history are known
 module _ (all : List Accepted) where
-  -- each line is legal over these commands
-  abbrev pub AllLegal : List (List ShardStep) → Type 0
-  AllLegal [] = Unit {0}
-  AllLegal (line ∷ lines) = IsLegalShardBy (changes_stream all) (viewed all) line × AllLegal lines
-
-  -- an earlier part of a history with these commands
-  pub record IsEarlier (history : History) : Type 0 where
-    pub realm : IsLegalRealm history.realm
-    pub shards : AllLegal history.shards
-
-  -- the lines before a step were legal
-  all_legal_before : (index : ℕ) (step : ShardStep) (lines : List (List ShardStep)) → AllLegal (with_step_at index step lines) → AllLegal lines
-  all_legal_before index step [] legal = tt
-  all_legal_before zero step (line ∷ lines) legal = (legal.0.1, legal.1)
-  all_legal_before (suc index) step (line ∷ lines) legal = (legal.0, all_legal_before index step lines legal.1)
-
-  -- and its reply was right
-  latest_answers : (index : ℕ) (step : ShardStep) (lines : List (List ShardStep)) → index < length lines
-      → AllLegal (with_step_at index step lines) → ShardAnswers (changes_stream all) (viewed all) (line_at index lines) step.input step.reply
-  latest_answers index step [] within legal = absurd (omega arith)
-  latest_answers zero step (line ∷ lines) within legal = legal.0.0
-  latest_answers (suc index) step (line ∷ lines) within legal = latest_answers index step lines (omega arith) legal.1
-
-  -- what stood before a step of the realm
-  pub earlier_realm : (input : RealmInput) (reply : RealmReply) (history : History)
-      → IsEarlier (with_realm_step input reply history) → IsEarlier history
-  earlier_realm input reply history earlier = record { realm = earlier.realm.1; shards = earlier.shards }
-
-  -- what stood before a step of a shard
-  pub earlier_before : (index : ℕ) (input : ShardInput) (reply : ShardReply) (history : History)
-      → IsEarlier (with_shard_step index input reply history) → IsEarlier history
-  earlier_before index input reply history earlier = record {
-    realm = earlier.realm;
-    shards = all_legal_before index (record { input = input; reply = reply }) history.shards earlier.shards;
+  -- what a history leaves
+  abbrev pub standing_of : History → Standing
+  standing_of history = record {
+    commands = commands history.realm;
+    announced = announced_count history.realm;
+    states = map (state_of (changed_events all)) history.shards;
   }
 
-  -- the reply of the latest step is the one that is right
-  pub replied : (index : ℕ) (input : ShardInput) (reply : ShardReply) (history : History) → index < length history.shards
-      → IsEarlier (with_shard_step index input reply history) → reply ≢ NoMemory
-      → reply ≡ reply_in all (state_at index (standing_of history).states) input
-  replied index input reply history within earlier memory =
-      reply_is all (line_at index history.shards) input reply
-      (latest_answers index (record { input = input; reply = reply }) history.shards within earlier.shards) memory
-      ∙ ap (λ state. reply_in all state input) (state_at-lines index history.shards)
+  -- the state of one shard
+  abbrev pub shard_state : ℕ → Standing → TraceState
+  shard_state index standing = state_at (changed_events all) index standing.states
 
--- lines that belong to a realm's are legal over its commands
-all_legal : (realm : List RealmStep) (count shard : ℕ) (lines : List (List ShardStep)) → AllBelong realm count shard lines → AllLegal (commands realm) lines
-all_legal realm count shard [] belong = tt
-all_legal realm count shard (line ∷ lines) belong = (belong.0.legal, all_legal realm count (shard + 1) lines belong.1)
+  -- it changes as it does by a step
+  abbrev pub with_step : ℕ → ShardInput → ShardReply → Standing → Standing
+  with_step index input reply before = with_change index (state_after (changed_events all) input reply) before
 
--- a legal history is a part of itself
-pub whole : (history : History) → IsLegalHistory history → IsEarlier (commands history.realm) history
-whole history legal = record {
-  realm = legal.realm;
-  shards = all_legal history.realm (length history.shards) 0 history.shards legal.shards;
-}
+  -- the reply of a shard
+  abbrev pub reply_of : ℕ → Standing → ShardInput → ShardReply
+  reply_of index standing input = reply_in (viewed all) (account_in (shard_state index standing)) input
+
+  -- what one more step of a shard leaves
+  pub standing_after : (index : ℕ) (input : ShardInput) (reply : ShardReply) (history : History)
+      → standing_of (with_shard_step index input reply history) ≡ with_step index input reply (standing_of history)
+  standing_after index input reply history =
+      ap (λ (states : List TraceState). record { commands = commands history.realm; announced = announced_count history.realm; states = states })
+      (states_after (changed_events all) index (record { input = input; reply = reply }) history.shards)
+
+  -- where a shard stands
+  pub position_is : (index : ℕ) (history : History) → (shard_state index (standing_of history)).position ≡ position_of (trace_at index history.shards)
+  position_is index history = sym (ap (λ (s : TraceState). s.position) (state_at-traces (changed_events all) index history.shards))
+
+  -- fetches leave the same
+  pub fetches_standing : (user : UserId) (parts : List FetchedSection) (history : History) → standing_of (with_fetches user parts history) ≡ standing_of history
+  fetches_standing user [] history = refl
+  fetches_standing user (part ∷ parts) history = fetches_standing user parts (with_fetch user history part)
+
+-- the reply of the latest step is the one that is right
+pub replied : (final : List RealmStep) (count : ℕ) (legal_final : IsLegalRealm final) (index : ℕ) (input : ShardInput) (reply : ShardReply) (history : History)
+    → index < length history.shards → WasThere final count (with_shard_step index input reply history) → reply ≢ NoMemory
+    → full_reply reply ≡ reply_of (commands final) index (standing_of (commands final) history) input
+replied final count legal_final index input reply history within there memory =
+    let all = commands final in
+    reply_is (viewed all) (account_in (state_of (changed_events all) (trace_at index history.shards))) input reply
+    (answered_at final count legal_final index input reply history there within).answers memory
+    ∙ ap (λ (state : TraceState). reply_in (viewed all) (account_in state) input) (state_at-traces (changed_events all) index history.shards)

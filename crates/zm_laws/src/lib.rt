@@ -1,6 +1,4 @@
 //! What holds of every script: the laws over all that is played in a legal history.
 #![tactic(auto)]
 
-mod laws;
-
-pub use laws::{one_text, promises_hold};
+pub mod laws;

@@ -1,5 +1,6 @@
 pub mod PlayedSteps
 pub mod PollSteps
+mod FetchFlow
 pub mod PushRounds
 pub mod RegisterFlow
 pub mod Steps

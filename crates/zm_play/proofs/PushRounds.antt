@@ -2,25 +2,27 @@
 use Rattle.std.proofs.Common.{◌≡◌, ℕ, ◌+◌, ◌-◌, ◌<◌, ◌≤◌, min, List, [], ◌∷◌, length, refl, ap, sym, subst, ◌∙◌, inl, inr, arith}
 use Rattle.std.specs.Prelude.{Result, Ok, Err}
 use Rattle.ev_rows.specs.declared.memory.NoMemory.{NoMemory}
-use Rattle.zw_lines.specs.declared.people.Notice.{Notice}
-use Rattle.zw_lines.specs.declared.realm.RealmInput.TheVariants.{NoticeAll, Take}
-use Rattle.zw_lines.specs.declared.realm.RealmReply.TheVariants.{Noticed, Notices}
-use Rattle.zw_lines.specs.declared.shard.ShardInput.TheVariants.{Push, Locate}
-use Rattle.zw_lines.specs.declared.shard.ShardReply.TheVariants.{Pushed, At}
-use Rattle.zw_lines.specs.RealmLine.{Accepted, AreNotices, RealmAnswers, announced, commands, commits, all_taken}
-use Rattle.zw_lines.specs.ShardLine.{ShardStep, given_rows, position, pushed_stream}
-use Rattle.zw_lines.specs.Histories.{History, AreAnnounced, IsFedHistory, with_realm_step, with_shard_step}
-use Rattle.zw_lines.proofs.ShardSteps.{pushed_tells}
-use Rattle.zw_shard.specs.ShardStanding.{AreNumbered}
-use Rattle.zw_world.specs.Worlds.{WorldState, WorldStands}
+use Rattle.ev_types.specs.declared.notice.Notice.{Notice}
+use Rattle.zw_traces.specs.declared.realm.RealmInput.TheVariants.{NoticeAll, Take}
+use Rattle.zw_traces.specs.declared.realm.RealmReply.TheVariants.{Noticed, Notices}
+use Rattle.zw_traces.specs.declared.shard.ShardInput.TheVariants.{Push, Locate}
+use Rattle.zw_traces.specs.declared.shard.ShardReply.TheVariants.{Pushed, At}
+use Rattle.zw_traces.specs.RealmTrace.{Accepted, AreNotices, RealmAnswers, announced_count, commands, commits, max_taken}
+use Rattle.zw_traces.specs.RealmFeeds.{AreAnnounced}
+use Rattle.zw_traces.specs.declared.shard.ShardStep.{ShardStep}
+use Rattle.zw_traces.specs.ShardTrace.{given_rows, position_of, pushed_events, shard_account}
+use Rattle.zw_traces.specs.Histories.{History, IsFedHistory, with_realm_step, with_shard_step}
+use Rattle.zw_traces.proofs.Steps.{pushed_tells}
+use Rattle.q_shard.specs.ShardInputs.{AreNumbered}
+use Rattle.zw_world.specs.Worlds.{WorldState, WorldRepresents}
 use Rattle.zw_laws.proofs.FedSteps.{taken_notices_are_announced}
 use Rattle.zm_text.specs.Playing.{CatchesUp, PlaysPush, Round, TakesAndPushes}
-use Rattle.zm_play.specs.Flows.{Any, Asks, Goes, GoesOn, IsAt, IsDue, IsNext, IsReady, MayCatchUp, MayPush, OrStops, TakesNext, TakesUpTo, line_of}
-use Rattle.zm_play.specs.Flows.GoesOn.{rests, asks_realm, asks_shard}
-use Rattle.zm_play.proofs.Steps.{goes_ready, goes_twice, goes_when, last_answer, line_at-with_step_at, lines_of_shards, realm_goes}
+use Rattle.zm_play.specs.Flows.{Any, Asks, Continues, Extends, IsAt, IsDue, IsNext, IsReady, MayCatchUp, MayPush, OrStops, TakesNext, TakesUpTo, trace_of}
+use Rattle.zm_play.specs.Flows.Extends.{rests, asks_realm, asks_shard}
+use Rattle.zm_play.proofs.Steps.{goes_ready, goes_twice, goes_when, last_answer, trace_at-with_step_at, traces_of_shards, realm_goes}
 
 -- more steps after more steps are more steps
-pub goes_on_from : {before between after : History} → GoesOn before between → GoesOn between after → GoesOn before after
+pub goes_on_from : {before between after : History} → Extends before between → Extends between after → Extends before after
 goes_on_from first rests = first
 goes_on_from first (asks_realm input reply rest) = asks_realm input reply (goes_on_from first rest)
 goes_on_from first (asks_shard index input reply rest) = asks_shard index input reply (goes_on_from first rest)
@@ -45,14 +47,14 @@ taken_may_be_pushed index first from list before next answers =
 -- a take as it is asked
 pub record Took (first : ℕ) (list : List Notice) (before after : History) : Type 0 where
   pub is : after ≡ with_realm_step (Take first) (Notices first list) before
-  pub many : length list ≡ min all_taken (announced before.realm + 1 - first)
+  pub many : length list ≡ min max_taken (announced_count before.realm + 1 - first)
 
 module _ (old mid : WorldState) (index first from : ℕ) (list : List Notice)
-    (answers : (history : History) → WorldStands old history → RealmAnswers history.realm (Take first) (Notices from list))
-    (stands : (history : History) → WorldStands old history → WorldStands mid (with_realm_step (Take first) (Notices from list) history)) where
-  take_goes : Goes old mid (IsNext index first) (λ before after. Took first list before after × MayPush index first list after)
+    (answers : (history : History) → WorldRepresents old history → RealmAnswers history.realm (Take first) (Notices from list))
+    (represents : (history : History) → WorldRepresents old history → WorldRepresents mid (with_realm_step (Take first) (Notices from list) history)) where
+  take_goes : Continues old mid (IsNext index first) (λ before after. Took first list before after × MayPush index first list after)
   take_goes = realm_goes old mid (Take first) (Notices from list) (IsNext index first) (λ before after. Took first list before after × MayPush index first list after)
-      answers stands (λ before at right. (
+      answers represents (λ before at right. (
         record { is = ap (λ n. with_realm_step (Take first) (Notices n list) before) right.0; many = right.2 },
         taken_may_be_pushed index first from list before at.holds right,
       ))
@@ -61,20 +63,20 @@ module _ (old mid : WorldState) (index first from : ℕ) (list : List Notice)
   next_ready ready = goes_ready ready take_goes (λ before after at now. now.holds.1)
 
   pub next_numbered : IsReady old (IsNext index first) → AreNumbered first list
-  next_numbered ready = notices_are_numbered (commands ready.0.realm) first list (answers ready.0 ready.1.stands).1
+  next_numbered ready = notices_are_numbered (commands ready.0.realm) first list (answers ready.0 ready.1.represents).1
 
   -- a push of what was taken, which is at least one notice, reaches beyond it
   pub next_goes : (new : WorldState) (result : Result ℕ NoMemory) → index < length old.shards
-      → Goes mid new (MayPush index first list) (OrStops result (λ reached. Asks index (Push first list) (Pushed reached)))
-      → Goes old new (IsNext index first) (OrStops result (λ reached. TakesNext index first reached))
+      → Continues mid new (MayPush index first list) (OrStops result (λ reached. Asks index (Push first list) (Pushed reached)))
+      → Continues old new (IsNext index first) (OrStops result (λ reached. TakesNext index first reached))
   next_goes new (Ok reached) below pushes = goes_twice take_goes pushes (λ before between at now. now.holds.1) (λ before between after at now last.
       let took = now.holds.0 in
       let next = at.holds in
       let asked = last.holds in
-      let lines = lines_of_shards old before at.stands in
+      let traces = traces_of_shards old before at.represents in
       let same : length between.shards ≡ length before.shards = ap (λ history. length history.shards) took.is in
       let fed = subst IsFedHistory asked last.fed in
-      let tells = pushed_tells pushed_stream given_rows (line_of index between) first list reached (last_answer between index (Push first list) (Pushed reached) (omega arith) fed) in
+      let tells = pushed_tells (shard_account pushed_events (trace_of index between)) given_rows first list reached (last_answer between index (Push first list) (Pushed reached) (omega arith) fed) in
       let many = took.many in
       let announced_to = next.announced in
       let some : 1 ≤ length list = omega arith in
@@ -84,10 +86,10 @@ module _ (old mid : WorldState) (index first from : ℕ) (list : List Notice)
         pushed = asked ∙ ap (with_shard_step index (Push first list) (Pushed reached)) took.is;
       })
   next_goes new (Err none) below pushes = goes_twice take_goes pushes (λ before between at now. now.holds.1) (λ before between after at now last.
-      let first_step : GoesOn before between = subst (λ history. GoesOn before history) (sym now.holds.0.is) (asks_realm (Take first) (Notices first list) rests) in
+      let first_step : Extends before between = subst (λ history. Extends before history) (sym now.holds.0.is) (asks_realm (Take first) (Notices first list) rests) in
       goes_on_from first_step last.holds)
 
--- a shard that stands at a position that isn't enough lacks the next notice
+-- a shard that represents at a position that isn't enough lacks the next notice
 pub due_next : (index need have : ℕ) (history : History) → have < need → IsDue index need have history → IsNext index (have + 1) history
 due_next index need have history below due =
     let at = due.position in
@@ -95,98 +97,98 @@ due_next index need have history below due =
     record { position = omega arith; announced = omega arith }
 
 -- what is taken and pushed from a position on goes on what was taken and pushed up to it
-pub record Took_to (index need have reached : ℕ) (before now : History) : Type 0 where
+pub record TakenUpTo (index need have reached : ℕ) (before now : History) : Type 0 where
   pub due : IsDue index need reached now
-  pub more : GoesOn before now
+  pub more : Extends before now
   pub rounds : (end : ℕ) (later : List Round) (after : History) → TakesAndPushes index need reached later now end after
       → (all : List Round) × TakesAndPushes index need have all before end after
 
 -- nothing was taken yet
-pub begins : (world : WorldState) (index need have : ℕ) → Goes world world (IsDue index need have) (Took_to index need have have)
+pub begins : (world : WorldState) (index need have : ℕ) → Continues world world (IsDue index need have) (TakenUpTo index need have have)
 begins world index need have before at =
-    (before, record { stands = at.stands; fed = at.fed; holds = record { due = at.holds; more = rests; rounds = λ end later after pushed. (later, pushed) } })
+    (before, record { represents = at.represents; fed = at.fed; holds = record { due = at.holds; more = rests; rounds = λ end later after pushed. (later, pushed) } })
 
 -- a shard that took and pushed once more
 pub rounds_go : (old world new : WorldState) (index need have reached further : ℕ) → index < length world.shards → reached < need
-    → Goes old world (IsDue index need have) (Took_to index need have reached)
-    → Goes world new (IsNext index (reached + 1)) (TakesNext index (reached + 1) further)
-    → Goes old new (IsDue index need have) (Took_to index need have further)
+    → Continues old world (IsDue index need have) (TakenUpTo index need have reached)
+    → Continues world new (IsNext index (reached + 1)) (TakesNext index (reached + 1) further)
+    → Continues old new (IsDue index need have) (TakenUpTo index need have further)
 rounds_go old world new index need have reached further below lacks first second =
     goes_twice first second (λ before between at now. due_next index need reached between lacks now.holds.due) (λ before between after at now last.
     let was = now.holds in
     let next = last.holds in
     let taken = with_realm_step (Take (reached + 1)) (Notices (reached + 1) next.notices) between in
     let pushed : ShardStep = record { input = Push (reached + 1) next.notices; reply = Pushed further } in
-    let lines = lines_of_shards world between now.stands in
-    let asked_of : line_of index after ≡ pushed ∷ line_of index between = ap (line_of index) next.pushed ∙ line_at-with_step_at index pushed between.shards (omega arith) in
+    let traces = traces_of_shards world between now.represents in
+    let asked_of : trace_of index after ≡ pushed ∷ trace_of index between = ap (trace_of index) next.pushed ∙ trace_at-with_step_at index pushed between.shards (omega arith) in
     let known = was.due.announced in
     record {
       due = record {
-        position = ap position asked_of;
-        announced = subst (λ history. need ≤ announced history.realm) (sym next.pushed) known;
+        position = ap position_of asked_of;
+        announced = subst (λ history. need ≤ announced_count history.realm) (sym next.pushed) known;
       };
-      more = goes_on_from was.more (subst (λ history. GoesOn between history) (sym next.pushed)
+      more = goes_on_from was.more (subst (λ history. Extends between history) (sym next.pushed)
           (asks_shard index (Push (reached + 1) next.notices) (Pushed further) (asks_realm (Take (reached + 1)) (Notices (reached + 1) next.notices) rests)));
       rounds = λ end later last_of done. was.rounds end (record { notices = next.notices; position = further } ∷ later) last_of
           (lacks, subst (λ history. TakesAndPushes index need further later history end last_of) next.pushed done);
     })
 
--- it stopped for want of memory
+-- it stopped for out of memory
 pub rounds_stop : (old now new : WorldState) (index need have reached : ℕ) → reached < need
-    → Goes old now (IsDue index need have) (Took_to index need have reached)
-    → Goes now new (IsNext index (reached + 1)) GoesOn
-    → Goes old new (IsDue index need have) GoesOn
+    → Continues old now (IsDue index need have) (TakenUpTo index need have reached)
+    → Continues now new (IsNext index (reached + 1)) Extends
+    → Continues old new (IsDue index need have) Extends
 rounds_stop old now new index need have reached lacks first second =
     goes_twice first second (λ before between at now. due_next index need reached between lacks now.holds.due)
     (λ before between after at now last. goes_on_from now.holds.more last.holds)
 
 -- it has what is needed
 pub rounds_end : (old now : WorldState) (index need have reached : ℕ) → need ≤ reached
-    → Goes old now (IsDue index need have) (Took_to index need have reached)
-    → Goes old now (IsDue index need have) (TakesUpTo index need have reached)
+    → Continues old now (IsDue index need have) (TakenUpTo index need have reached)
+    → Continues old now (IsDue index need have) (TakesUpTo index need have reached)
 rounds_end old now index need have reached enough first before at =
     let there = first before at in
     let last = there.1 in
-    (there.0, record { stands = last.stands; fed = last.fed; holds = last.holds.rounds reached [] there.0 (enough, refl, refl) })
+    (there.0, record { represents = last.represents; fed = last.fed; holds = last.holds.rounds reached [] there.0 (enough, refl, refl) })
 
 -- takes and pushes are more steps
 pushes_go_on : (index need have : ℕ) (rounds : List Round) (before : History) (reached : ℕ) (after : History)
-    → TakesAndPushes index need have rounds before reached after → GoesOn before after
-pushes_go_on index need have [] before reached after pushed = subst (λ history. GoesOn before history) (sym pushed.2) rests
+    → TakesAndPushes index need have rounds before reached after → Extends before after
+pushes_go_on index need have [] before reached after pushed = subst (λ history. Extends before history) (sym pushed.2) rests
 pushes_go_on index need have (round ∷ rounds) before reached after pushed =
     let between = with_shard_step index (Push (have + 1) round.notices) (Pushed round.position) (with_realm_step (Take (have + 1)) (Notices (have + 1) round.notices) before) in
     goes_on_from (asks_shard index (Push (have + 1) round.notices) (Pushed round.position) (asks_realm (Take (have + 1)) (Notices (have + 1) round.notices) rests))
     (pushes_go_on index need round.position rounds between reached after pushed.1)
 
-pub catches_go_on : (index need have : ℕ) (before : History) (reached : ℕ) (after : History) → CatchesUp index need have before reached after → GoesOn before after
-catches_go_on index need have before reached after (inl stays) = subst (λ history. GoesOn before history) (sym stays.2) rests
+pub catches_go_on : (index need have : ℕ) (before : History) (reached : ℕ) (after : History) → CatchesUp index need have before reached after → Extends before after
+catches_go_on index need have before reached after (inl stays) = subst (λ history. Extends before history) (sym stays.2) rests
 catches_go_on index need have before reached after (inr goes) =
     let between = with_realm_step NoticeAll (Noticed goes.1) before in
     goes_on_from (asks_realm NoticeAll (Noticed goes.1) rests) (pushes_go_on index need have goes.2 between reached after goes.3)
 
 module _ (old mid : WorldState) (index need have : ℕ) (below : index < length old.shards) (need_is : need ≡ mid.realm.announced)
-    (located : Goes old mid Any (Asks index Locate (At have))) where
+    (located : Continues old mid Any (Asks index Locate (At have))) where
   -- a shard that was located is due what was announced
   located_due : (before between : History) → IsAt old Any before → IsAt mid (Asks index Locate (At have) before) between
-      → IsDue index need have between × (need ≡ announced before.realm)
+      → IsDue index need have between × (need ≡ announced_count before.realm)
   located_due before between at now =
       let step : ShardStep = record { input = Locate; reply = At have } in
       let asked = now.holds in
-      let lines = lines_of_shards old before at.stands in
+      let traces = traces_of_shards old before at.represents in
       let within : index < length before.shards = omega arith in
-      let line_is : line_of index between ≡ step ∷ line_of index before = ap (line_of index) asked ∙ line_at-with_step_at index step before.shards within in
-      let have_is : At have ≡ At (position (line_of index before)) = last_answer before index Locate (At have) within (subst IsFedHistory asked now.fed) in
-      let at_have : position (line_of index before) ≡ have = cc in
-      let all : need ≡ announced between.realm = need_is ∙ now.stands.realm.announced in (
-        record { position = ap position line_is ∙ at_have; announced = omega arith },
-        all ∙ ap (λ history. announced history.realm) asked,
+      let trace_is : trace_of index between ≡ step ∷ trace_of index before = ap (trace_of index) asked ∙ trace_at-with_step_at index step before.shards within in
+      let have_is : At have ≡ At (position_of (trace_of index before)) = last_answer before index Locate (At have) within (subst IsFedHistory asked now.fed) in
+      let at_have : position_of (trace_of index before) ≡ have = cc in
+      let all : need ≡ announced_count between.realm = need_is ∙ now.represents.realm.announced in (
+        record { position = ap position_of trace_is ∙ at_have; announced = omega arith },
+        all ∙ ap (λ history. announced_count history.realm) asked,
       )
 
   pub push_ready : IsReady old Any → IsReady mid (IsDue index need have)
   push_ready ready = goes_ready ready located (λ before after at now. (located_due before after at now).0)
 
-  pub push_goes : (new : WorldState) (reached : ℕ) → Goes mid new (IsDue index need have) (TakesUpTo index need have reached)
-      → Goes old new Any (PlaysPush index reached)
+  pub push_goes : (new : WorldState) (reached : ℕ) → Continues mid new (IsDue index need have) (TakesUpTo index need have reached)
+      → Continues old new Any (PlaysPush index reached)
   push_goes new reached pushes = goes_twice located pushes (λ before between at now. (located_due before between at now).0) (λ before between after at now last.
       let rounds = last.holds.0 in
       let same = (located_due before between at now).1 in
@@ -197,17 +199,17 @@ module _ (old mid : WorldState) (index need have : ℕ) (below : index < length 
             (subst (λ history. TakesAndPushes index need have rounds history reached after) now.holds last.holds.1);
       })
 
-  pub push_stops : (new : WorldState) → Goes mid new (IsDue index need have) GoesOn → Goes old new Any GoesOn
+  pub push_stops : (new : WorldState) → Continues mid new (IsDue index need have) Extends → Continues old new Any Extends
   push_stops new stops = goes_twice located stops (λ before between at now. (located_due before between at now).0) (λ before between after at now last.
-      goes_on_from (subst (λ history. GoesOn before history) (sym now.holds) (asks_shard index Locate (At have) rests)) last.holds)
+      goes_on_from (subst (λ history. Extends before history) (sym now.holds) (asks_shard index Locate (At have) rests)) last.holds)
 
--- a shard that stands where it is needed is left
-pub stays_caught_up : (world : WorldState) (index need have : ℕ) → need ≤ have → Goes world world (MayCatchUp index need have) (λ before after. CatchesUp index need have before have after)
+-- a shard that represents where it is needed is left
+pub stays_caught_up : (world : WorldState) (index need have : ℕ) → need ≤ have → Continues world world (MayCatchUp index need have) (λ before after. CatchesUp index need have before have after)
 stays_caught_up world index need have enough before at =
-    (before, record { stands = at.stands; fed = at.fed; holds = inl (enough, refl, refl) })
+    (before, record { represents = at.represents; fed = at.fed; holds = inl (enough, refl, refl) })
 
 module _ (old mid : WorldState) (index need have count : ℕ) (lacks : have < need)
-    (noticed : Goes old mid Any (λ before after. after ≡ with_realm_step NoticeAll (Noticed count) before)) where
+    (noticed : Continues old mid Any (λ before after. after ≡ with_realm_step NoticeAll (Noticed count) before)) where
   -- where all commits were announced, those that are needed were
   announced_due : (before between : History) → IsAt old (MayCatchUp index need have) before
       → IsAt mid (λ after. after ≡ with_realm_step NoticeAll (Noticed count) before) between → IsDue index need have between
@@ -217,19 +219,19 @@ module _ (old mid : WorldState) (index need have count : ℕ) (lacks : have < ne
       let committed = was.committed in
       let fed = subst IsFedHistory noted now.fed in
       let count_is : count ≡ commits before.realm = fed.realm.0 in
-      let told : announced between.realm ≡ count = ap (λ history. announced history.realm) noted in
+      let told : announced_count between.realm ≡ count = ap (λ history. announced_count history.realm) noted in
       record {
-        position = ap (λ history. position (line_of index history)) noted ∙ was.position;
+        position = ap (λ history. position_of (trace_of index history)) noted ∙ was.position;
         announced = omega arith;
       }
 
   pub catch_up_ready : IsReady old (MayCatchUp index need have) → IsReady mid (IsDue index need have)
   catch_up_ready ready = goes_ready ready (goes_when (λ history holds. tt) noticed) announced_due
 
-  pub catch_up_goes : (new : WorldState) (result : Result ℕ NoMemory) → Goes mid new (IsDue index need have) (OrStops result (λ reached. TakesUpTo index need have reached))
-      → Goes old new (MayCatchUp index need have) (OrStops result (λ reached before after. CatchesUp index need have before reached after))
+  pub catch_up_goes : (new : WorldState) (result : Result ℕ NoMemory) → Continues mid new (IsDue index need have) (OrStops result (λ reached. TakesUpTo index need have reached))
+      → Continues old new (MayCatchUp index need have) (OrStops result (λ reached before after. CatchesUp index need have before reached after))
   catch_up_goes new (Ok reached) pushes = goes_twice (goes_when (λ history holds. tt) noticed) pushes announced_due (λ before between after at now last.
       let rounds = last.holds.0 in
       inr (lacks, count, rounds, subst (λ history. TakesAndPushes index need have rounds history reached after) now.holds last.holds.1))
   catch_up_goes new (Err none) stops = goes_twice (goes_when (λ history holds. tt) noticed) stops announced_due (λ before between after at now last.
-      goes_on_from (subst (λ history. GoesOn before history) (sym now.holds) (asks_realm NoticeAll (Noticed count) rests)) last.holds)
+      goes_on_from (subst (λ history. Extends before history) (sym now.holds) (asks_realm NoticeAll (Noticed count) rests)) last.holds)

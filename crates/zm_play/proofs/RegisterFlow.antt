@@ -1,313 +1,402 @@
 -- The flow of a registration, from the opening of the queue to its finish.
-use Rattle.std.proofs.Common.{◌≡◌, ℕ, ◌+◌, ◌<◌, ◌≤◌, true, ◌||◌, List, [], ◌∷◌, length, refl, ap, sym, subst, ◌∙◌, inl, inr, arith}
+use Rattle.std.proofs.Common.{◌≡◌, ℕ, ◌+◌, ◌<◌, ◌≤◌, max, Bool, true, false, nat_lt, Option, None, Some, List, [], ◌∷◌, ◌++◌, length, append_assoc, refl, ap, sym, subst, ◌∙◌, inl, inr, MatchBool, MatchOption, if◌then◌else◌, ℤ, arith}
 use Rattle.std.specs.Prelude.{Result, Ok, Err}
-use Rattle.std.proofs.lemmas.Bool.{eq-eqb}
+use Rattle.std.proofs.lemmas.Bool.{le-ltb}
 use Rattle.ev_base.specs.declared.ids.UserId.{UserId}
 use Rattle.ev_base.specs.declared.ids.QueueId.{QueueId}
 use Rattle.ev_rows.specs.declared.memory.NoMemory.{NoMemory}
-use Rattle.zw_lines.specs.declared.realm.RealmInput.TheVariants.{Fetch, NoticeAll, Take}
-use Rattle.zw_lines.specs.declared.realm.RealmReply.TheVariants.{FetchRefused as fetch_refused, Noticed, Notices, Section}
-use Rattle.zw_lines.specs.declared.shard.Part.{Part}
-use Rattle.zw_lines.specs.declared.shard.ShardInput.TheVariants.{Delete, Finish, Push, Start}
-use Rattle.zw_lines.specs.declared.shard.ShardReply.TheVariants.{Deleted, Opened, Pushed, Finished as finished}
-use Rattle.zw_lines.specs.Views.{Rows}
-use Rattle.zw_lines.specs.RealmLine.{RealmAnswers, announced}
-use Rattle.zw_lines.specs.ShardLine.{ShardStep, given_rows, is_live, is_opening, is_opening_phase, opened_at, phase, position, pushed_stream, same_queue}
-use Rattle.zw_lines.specs.Histories.{History, IsFedHistory, WasFetched, shard_of, with_realm_step, with_shard_step}
-use Rattle.zw_lines.proofs.RealmLines.{announced_within}
-use Rattle.zw_lines.proofs.ShardSteps.{opened_tells, same_user_itself}
-use Rattle.zw_world.specs.Worlds.{WorldState, WorldStands}
-use Rattle.zw_laws.proofs.FedLines.{position_announced}
-use Rattle.zw_laws.proofs.FedSteps.{length-with_step_at}
+use Rattle.ev_types.specs.declared.kind.Types.{Types}
+use Rattle.ev_types.specs.declared.section.Section.{Section}
+use Rattle.ev_types.specs.declared.state.State.{State}
+use Rattle.zw_traces.specs.declared.realm.RealmInput.TheVariants.{NoticeAll, Take}
+use Rattle.zw_traces.specs.declared.realm.RealmReply.TheVariants.{Noticed, Notices}
+use Rattle.zw_traces.specs.declared.realm.RealmStep.{RealmStep}
+use Rattle.zw_traces.specs.declared.shard.FetchedSection.{FetchedSection}
+use Rattle.zw_traces.specs.declared.shard.ShardInput.TheVariants.{Delete, Finish, Push, Start}
+use Rattle.zw_traces.specs.declared.shard.ShardReply.{ShardReply}
+use Rattle.zw_traces.specs.declared.shard.ShardReply.TheVariants.{Deleted, Opened, Pushed, Finished as finished, BadQueue as bad_queue, MissingSection, NotPushed, NoMemory as no_memory}
+use Rattle.zw_traces.specs.declared.shard.ShardStep.{ShardStep}
+use Rattle.zw_traces.specs.FetchedSections.{all_sections, first_missing, needed}
+use Rattle.zw_traces.specs.Account.{Account, after_push, end_user, is_held, is_opening_phase, new_notices, opened_account}
+use Rattle.zw_traces.specs.RealmTrace.{IsLegalRealm, commands, commits}
+use Rattle.zw_traces.specs.RealmFeeds.{IsPartedStep, WereFetched, opening_place}
+use Rattle.zw_traces.specs.ShardTrace.{IsFinished, OrNoMemory, ShardAnswers, account_of, given_rows, position_of, pushed_events, shard_account}
+use Rattle.ev_types.specs.OneSection.{received}
+use Rattle.zw_traces.specs.Histories.{History, IsFedBy, IsFedHistory, shard_of, trace_at, with_realm_step, with_shard_step}
+use Rattle.zw_traces.proofs.RealmTraces.{announced_within}
+use Rattle.zw_traces.proofs.Steps.{opened_tells, same_queue_itself}
+use Rattle.zw_world.specs.Worlds.{WorldState, WorldRepresents}
+use Rattle.zw_laws.proofs.Announced.{position_announced}
+use Rattle.zw_laws.proofs.FedSteps.{fed_steps_stay_fed, length-with_step_at}
 use Rattle.zs_script.specs.declared.step.Step.TheVariants.{Register}
 use Rattle.zm_text.specs.declared.outcome.Outcome.{Outcome}
-use Rattle.zm_text.specs.declared.outcome.Outcome.TheVariants.{FetchRefused, Finished}
-use Rattle.zm_text.specs.Playing.{CatchesUp, Plays, PlaysRegister, Round, TakesAndPushes, with_step_for}
-use Rattle.zm_play.specs.Flows.{Any, Asks, Completes, Finishes, Goes, GoesOn, IsAt, IsReady, MayCatchUp, MayComplete, MayDelete, MayFinish, OrStops, Registers, WasOpened, line_of}
-use Rattle.zm_play.specs.Flows.GoesOn.{rests, asks_realm, asks_shard}
+use Rattle.zm_text.specs.declared.outcome.Outcome.TheVariants.{FetchRefused, Finished, BadQueue}
+use Rattle.zm_text.specs.Playing.{CatchesUp, Plays, PlaysRegister, PlaysRefusedFetch, Round, TakesAndPushes, moment, salt, sections, serving, with_fetches, with_opening}
+use Rattle.zm_text.proofs.Fetches.{fetched_parts, fetches_commands, fetches_shards, needed_within, none_missing, were_fetched}
+use Rattle.zm_play.specs.Flows.{Any, Asks, Completes, Continues, Extends, FetchesAll, Finishes, IsAt, IsReady, MayCatchUp, MayComplete, MayDelete, MayFinish, OrStops, Registers, WasOpened, queue_in, trace_of}
+use Rattle.zm_play.specs.Flows.Extends.{rests, asks_shard}
+use Rattle.zm_play.proofs.FetchFlow.{fetches_extend}
 use Rattle.zm_play.proofs.PushRounds.{catches_go_on, goes_on_from}
-use Rattle.zm_play.proofs.Steps.{goes_ready, goes_twice, goes_when, last_answer, line_at-with_step_at, line_is_fed, lines_of_shards, realm_goes, serves}
+use Rattle.zm_play.proofs.Steps.{goes_ready, goes_twice, goes_when, last_answer, serves, trace_at-with_step_at, trace_is_fed, traces_of_shards}
 
-module _ (index : ℕ) (queue : QueueId) (part : Part) where
-  -- what takes and pushes leave of a queue and of a fetched part
+-- a push leaves what was asked for
+push_asked : (held over : Bool) (a b : Account) → b.asked ≡ a.asked → (if held then b else a).asked ≡ a.asked
+push_asked true over a b same = same
+push_asked false over a b same = refl
+
+module _ (index : ℕ) (queue : QueueId) where
+  -- what takes and pushes leave: more steps, of a queue that was asked the same
   pub record Keeps (before after : History) : Type 0 where
     pub many : length after.shards ≡ length before.shards
-    pub phase_is : phase queue (line_of index after) ≡ phase queue (line_of index before)
-    pub opened : opened_at queue (line_of index after) ≡ opened_at queue (line_of index before)
-    pub fetched : (user : UserId) → WasFetched before.realm user part → WasFetched after.realm user part
+    pub asked : (queue_in index queue after).asked ≡ (queue_in index queue before).asked
+    pub later : List RealmStep
+    pub realm_is : after.realm ≡ later ++ before.realm
+    pub more : List ShardStep
+    pub trace_is : trace_of index after ≡ more ++ trace_of index before
 
   keeps_rest : (history : History) → Keeps history history
-  keeps_rest history = record { many = refl; phase_is = refl; opened = refl; fetched = λ user was. was }
+  keeps_rest history = record { many = refl; asked = refl; later = []; realm_is = refl; more = []; trace_is = refl }
 
   keeps_more : (before between after : History) → Keeps before between → Keeps between after → Keeps before after
   keeps_more before between after first second = record {
     many = second.many ∙ first.many;
-    phase_is = second.phase_is ∙ first.phase_is;
-    opened = second.opened ∙ first.opened;
-    fetched = λ user was. second.fetched user (first.fetched user was);
+    asked = second.asked ∙ first.asked;
+    later = second.later ++ first.later;
+    realm_is = second.realm_is ∙ ap (λ list. second.later ++ list) first.realm_is ∙ sym (append_assoc second.later first.later before.realm);
+    more = second.more ++ first.more;
+    trace_is = second.trace_is ∙ ap (λ list. second.more ++ list) first.trace_is ∙ sym (append_assoc second.more first.more (trace_of index before));
   }
 
-  round_keeps : (need have : ℕ) (round : Round) (before : History) → index < length before.shards
+  round_keeps : (have : ℕ) (round : Round) (before : History) → index < length before.shards
       → let after = with_shard_step index (Push (have + 1) round.notices) (Pushed round.position) (with_realm_step (Take (have + 1)) (Notices (have + 1) round.notices) before) in
-      Keeps before after × (position (line_of index after) ≡ round.position)
-  round_keeps need have round before below =
+      Keeps before after × (position_of (trace_of index after) ≡ round.position)
+  round_keeps have round before below =
       let step : ShardStep = record { input = Push (have + 1) round.notices; reply = Pushed round.position } in
-      let line_is = line_at-with_step_at index step before.shards below in (
+      let taken : RealmStep = record { input = Take (have + 1); reply = Notices (have + 1) round.notices } in
+      let trace_is = trace_at-with_step_at index step before.shards below in
+      let a = queue_in index queue before in
+      let place = position_of (trace_of index before) in (
         record {
           many = length-with_step_at index step before.shards;
-          phase_is = ap (phase queue) line_is;
-          opened = ap (opened_at queue) line_is;
-          fetched = λ user was. inr was;
+          asked = ap (λ trace. (account_of pushed_events queue trace).asked) trace_is
+              ∙ push_asked (is_held a) false a (after_push (end_user queue.user (new_notices place (have + 1) round.notices)) (received a.types (pushed_events queue.user place (have + 1) round.notices)) a) refl;
+          later = taken ∷ [];
+          realm_is = refl;
+          more = step ∷ [];
+          trace_is = trace_is;
         },
-        ap position line_is,
+        ap position_of trace_is,
       )
 
   pushes_keep : (need have : ℕ) (rounds : List Round) (before : History) (reached : ℕ) (after : History) → index < length before.shards
-      → TakesAndPushes index need have rounds before reached after → position (line_of index before) ≡ have
-      → Keeps before after × (position (line_of index after) ≡ reached) × (need ≤ reached)
+      → TakesAndPushes index need have rounds before reached after → position_of (trace_of index before) ≡ have
+      → Keeps before after × (position_of (trace_of index after) ≡ reached) × (need ≤ reached)
   pushes_keep need have [] before reached after below pushed at =
       let enough = pushed.0 in
       let reached_is = pushed.1 in (
         subst (Keeps before) (sym pushed.2) (keeps_rest before),
-        ap (λ history. position (line_of index history)) pushed.2 ∙ at ∙ sym reached_is,
+        ap (λ history. position_of (trace_of index history)) pushed.2 ∙ at ∙ sym reached_is,
         omega arith,
       )
   pushes_keep need have (round ∷ rounds) before reached after below pushed at =
-      let once = round_keeps need have round before below in
+      let once = round_keeps have round before below in
       let between = with_shard_step index (Push (have + 1) round.notices) (Pushed round.position) (with_realm_step (Take (have + 1)) (Notices (have + 1) round.notices) before) in
       let many = once.0.many in
       let rest = pushes_keep need round.position rounds between reached after (omega arith) pushed.1 once.1 in
       (keeps_more before between after once.0 rest.0, rest.1, rest.2)
 
   -- a shard that catches up keeps them, and reaches what is needed
-  catches_keep : (need have : ℕ) (before : History) (reached : ℕ) (after : History) → index < length before.shards
-      → CatchesUp index need have before reached after → position (line_of index before) ≡ have
-      → Keeps before after × (position (line_of index after) ≡ reached) × (need ≤ reached)
+  pub catches_keep : (need have : ℕ) (before : History) (reached : ℕ) (after : History) → index < length before.shards
+      → CatchesUp index need have before reached after → position_of (trace_of index before) ≡ have
+      → Keeps before after × (position_of (trace_of index after) ≡ reached) × (need ≤ reached)
   catches_keep need have before reached after below (inl stays) at =
       let enough = stays.0 in
       let reached_is = stays.1 in (
         subst (Keeps before) (sym stays.2) (keeps_rest before),
-        ap (λ history. position (line_of index history)) stays.2 ∙ at ∙ sym reached_is,
+        ap (λ history. position_of (trace_of index history)) stays.2 ∙ at ∙ sym reached_is,
         omega arith,
       )
   catches_keep need have before reached after below (inr goes) at =
       let between = with_realm_step NoticeAll (Noticed goes.1) before in
-      let noted : Keeps before between = record { many = refl; phase_is = refl; opened = refl; fetched = λ user was. inr was } in
+      let noted : Keeps before between = record {
+        many = refl;
+        asked = refl;
+        later = record { input = NoticeAll; reply = Noticed goes.1 } ∷ [];
+        realm_is = refl;
+        more = [];
+        trace_is = refl;
+      } in
       let rest = pushes_keep need have goes.2 between reached after below goes.3 at in
       (keeps_more before between after noted rest.0, rest.1, rest.2)
 
-  module _ (have : ℕ) where
+  module _ (parts : List FetchedSection) (have : ℕ) where
     -- a queue that may be completed may be finished once its shard has caught up
-    caught_up_may_finish : (before after : History) (reached : ℕ) → index < length before.shards → MayComplete index queue have part before
-        → CatchesUp index part.at have before reached after → MayFinish index queue part after
-    caught_up_may_finish before after reached below may catches =
-        let kept = catches_keep part.at have before reached after below catches may.position in
-        let asked = may.asked in
+    caught_up_may_finish : (before after : History) (reached : ℕ) → index < length before.shards → IsFedHistory after
+        → MayComplete index queue have parts before → CatchesUp index (commits before.realm) have before reached after
+        → MayFinish index queue parts after
+    caught_up_may_finish before after reached below fed may catches =
+        let kept = catches_keep (commits before.realm) have before reached after below catches may.position in
+        let k = kept.0 in
         let reached_is = kept.1 in
         let enough = kept.2 in
+        let fetched = may.fetched in
+        let many = k.many in
+        let trace_fed = trace_is_fed after index fed (omega arith) in
+        let still = fed_steps_stay_fed k.later before.realm (length after.shards) index k.more (trace_of index before) (Finish queue parts)
+        (subst IsLegalRealm k.realm_is fed.realm)
+        (subst (λ realm. IsFedBy realm (length after.shards) index (k.more ++ trace_of index before)) k.realm_is
+        (subst (λ trace. IsFedBy after.realm (length after.shards) index trace) k.trace_is trace_fed))
+        may.may.fed may.may.parted in
         record {
-          opening = ap is_opening_phase kept.0.phase_is ∙ may.opening;
+          asked = k.asked ∙ may.asked;
           caught_up = omega arith;
-          asked = record {
+          may = record {
             fed = tt;
-            parted = (kept.0.fetched queue.user asked.parted.0, rw kept.0.opened asked.parted.1);
-            served = ap (λ count. shard_of count queue.user) kept.0.many ∙ asked.served;
+            parted = subst (λ trace. IsPartedStep after.realm (Finish queue parts) trace) (sym k.trace_is)
+                (subst (λ realm. IsPartedStep realm (Finish queue parts) (k.more ++ trace_of index before)) (sym k.realm_is) still.1);
+            served = ap (λ count. shard_of count queue.user) k.many ∙ may.may.served;
           };
         }
 
-    finishes_completes : (outcome : Outcome) (reached : ℕ) (before between after : History) → CatchesUp index part.at have before reached between
-        → Finishes index queue part outcome between after → Completes index queue have part outcome before after
-    finishes_completes (Finished to other last rows) reached before between after catches finishes = (finishes.0, (reached, between, catches, finishes.1))
-    finishes_completes outcome reached before between after catches finishes = absurd finishes
+    module _ (old mid : WorldState) (need reached : ℕ) (need_is : need ≡ length old.realm.notices) (below : index < length old.shards)
+        (catches : Continues old mid (MayCatchUp index need have) (λ before after. CatchesUp index need have before reached after)) where
+      catches_when : Continues old mid (MayComplete index queue have parts) (λ before after. CatchesUp index (commits before.realm) have before reached after)
+      catches_when before at =
+          let is : need ≡ commits before.realm = need_is ∙ at.represents.realm.count in
+          let there = catches before (record { represents = at.represents; fed = at.fed; holds = record { position = at.holds.position; committed = omega arith } }) in
+          let now = there.1 in
+          (there.0, record { represents = now.represents; fed = now.fed; holds = subst (λ n. CatchesUp index n have before reached there.0) is now.holds })
 
-    module _ (old mid : WorldState) (reached : ℕ) (below : index < length old.shards)
-        (catches : Goes old mid (MayCatchUp index part.at have) (λ before after. CatchesUp index part.at have before reached after)) where
-      catches_when : Goes old mid (MayComplete index queue have part) (λ before after. CatchesUp index part.at have before reached after)
-      catches_when = goes_when (λ history may. record { position = may.position; committed = may.committed }) catches
-
-      caught_up : (before between : History) → IsAt old (MayComplete index queue have part) before
-          → IsAt mid (λ after. CatchesUp index part.at have before reached after) between → MayFinish index queue part between
+      caught_up : (before between : History) → IsAt old (MayComplete index queue have parts) before
+          → IsAt mid (λ after. CatchesUp index (commits before.realm) have before reached after) between → MayFinish index queue parts between
       caught_up before between at now =
-          let lines = lines_of_shards old before at.stands in
-          caught_up_may_finish before between reached (omega arith) at.holds now.holds
+          let traces = traces_of_shards old before at.represents in
+          caught_up_may_finish before between reached (omega arith) now.fed at.holds now.holds
 
-      pub complete_ready : IsReady old (MayComplete index queue have part) → IsReady mid (MayFinish index queue part)
+      pub complete_ready : IsReady old (MayComplete index queue have parts) → IsReady mid (MayFinish index queue parts)
       complete_ready ready = goes_ready ready catches_when caught_up
 
-      pub complete_goes : (new : WorldState) (result : Result Outcome NoMemory) → Goes mid new (MayFinish index queue part) (OrStops result (Finishes index queue part))
-          → Goes old new (MayComplete index queue have part) (OrStops result (Completes index queue have part))
+      pub complete_goes : (new : WorldState) (result : Result Outcome NoMemory) → Continues mid new (MayFinish index queue parts) (OrStops result (Finishes index queue parts))
+          → Continues old new (MayComplete index queue have parts) (OrStops result (Completes index queue have parts))
       complete_goes new (Ok outcome) finishes = goes_twice catches_when finishes caught_up (λ before between after at now last.
-          finishes_completes outcome reached before between after now.holds last.holds)
+          record { position = reached; caught = between; catches_up = now.holds; finishes = last.holds })
       complete_goes new (Err none) stops = goes_twice catches_when stops caught_up (λ before between after at now last.
-          goes_on_from (catches_go_on index part.at have before reached between now.holds) last.holds)
+          goes_on_from (catches_go_on index (commits before.realm) have before reached between now.holds) last.holds)
 
-    -- where the shard did not catch up, for want of memory, nothing is finished
-    pub complete_stops : (old mid : WorldState) → Goes old mid (MayCatchUp index part.at have) GoesOn → Goes old mid (MayComplete index queue have part) GoesOn
-    complete_stops old mid stops = goes_when (λ history may. record { position = may.position; committed = may.committed }) stops
+    -- where the shard did not catch up, for out of memory, nothing is finished
+    pub complete_stops : (old mid : WorldState) (need : ℕ) → need ≡ length old.realm.notices
+        → Continues old mid (MayCatchUp index need have) Extends → Continues old mid (MayComplete index queue have parts) Extends
+    complete_stops old mid need need_is stops before at =
+        let is : need ≡ commits before.realm = need_is ∙ at.represents.realm.count in
+        stops before (record { represents = at.represents; fed = at.fed; holds = record { position = at.holds.position; committed = omega arith } })
 
--- a queue is the same as itself
-same_queue_itself : (queue : QueueId) → same_queue queue queue ≡ true
-same_queue_itself queue = rw (same_user_itself queue.user, eq-eqb queue.number queue.number refl, eq-eqb queue.salt queue.salt refl)
+  -- a finish that may be made is answered one of these
+  pub finish_answers : (parts : List FetchedSection) (history : History) (reply : ShardReply) → MayFinish index queue parts history
+      → ShardAnswers (shard_account pushed_events (trace_of index history)) given_rows (Finish queue parts) reply
+      → ((state : State) (last : ℤ) (reached : ℕ) → reply ≡ finished state last reached → ⊥) → (reply ≡ bad_queue → ⊥) → (reply ≡ no_memory → ⊥) → ⊥
+  finish_answers parts history reply may answers done bad none =
+      let a = queue_in index queue history in
+      let place = position_of (trace_of index history) in
+      go (is_opening_phase a.phase) (first_missing all_sections a.asked parts)
+      (ap (λ list. first_missing all_sections list parts) may.asked ∙ none_missing all_sections parts)
+      (nat_lt place (needed a.asked parts)) (ap (λ list. nat_lt place (needed list parts)) may.asked ∙ le-ltb place (needed (sections parts) parts) may.caught_up) answers
+    where
+      is_finished : (r : ShardReply) → reply ≡ r → IsFinished queue.user (queue_in index queue history) (position_of (trace_of index history)) given_rows parts r → ⊥
+      is_finished (finished state last reached) is right = done state last reached is
+      is_finished r is right = absurd right
 
-module _ (index : ℕ) (user : UserId) (queue : QueueId) (have : ℕ) where
+      go : (opens : Bool) (missing : Option Section) → missing ≡ None → (early : Bool) → early ≡ false
+          → MatchBool opens (MatchOption missing (MatchBool early (reply ≡ NotPushed (position_of (trace_of index history)) (needed (queue_in index queue history).asked parts) parts)
+          (OrNoMemory reply (IsFinished queue.user (queue_in index queue history) (position_of (trace_of index history)) given_rows parts reply)))
+          (λ which. reply ≡ MissingSection which parts)) (reply ≡ bad_queue) → ⊥
+      go false missing missing_is early early_is is = bad is
+      go true (Some which) missing_is early early_is is = cc
+      go true None missing_is true early_is is = cc
+      go true None missing_is false early_is (inl is) = is_finished reply refl is
+      go true None missing_is false early_is (inr is) = none is
+
+module _ (index : ℕ) (user : UserId) (asked : List Section) (queue : QueueId) (have : ℕ) where
   -- a queue that was just opened
-  record IsOpened (history : History) : Type 0 where
-    position : position (line_of index history) ≡ have
-    opening : is_opening queue (line_of index history) ≡ true
-    opened : opened_at queue (line_of index history) ≡ have
-    own : queue.user ≡ user
-    announced : have ≤ announced history.realm
+  pub record IsOpened (types : Types) (history : History) : Type 0 where
+    pub position : position_of (trace_of index history) ≡ have
+    pub account : queue_in index queue history ≡ opened_account types asked have moment
+    pub own : queue.user ≡ user
+    pub committed : have ≤ commits history.realm
 
   -- the queue was opened at the shard that serves the user
-  module _ (world : WorldState) (history start : History) (stands : WorldStands world history)
+  module _ (world : WorldState) (history start : History) (types : Types) (represents : WorldRepresents world history)
       (index_is : index ≡ shard_of (length world.shards) user) (below : index < length world.shards)
-      (opens : history ≡ with_step_for user (Start user) (Opened queue have) start) where
-    abbrev opening_step : ShardStep
-    opening_step = record { input = Start user; reply = Opened queue have }
+      (opens : history ≡ with_opening user types asked queue have start) where
+    abbrev pub opening_step : ShardStep
+    opening_step = record { input = Start user salt moment types asked; reply = Opened queue have }
 
     as_many : length history.shards ≡ length start.shards
     as_many = ap (λ h. length h.shards) opens ∙ length-with_step_at (shard_of (length start.shards) user) opening_step start.shards
 
     pub served : shard_of (length start.shards) user ≡ index
-    served = ap (λ count. shard_of count user) (sym as_many) ∙ serves world history user index stands index_is
+    served = ap (λ count. shard_of count user) (sym as_many) ∙ serves world history user index represents index_is
 
-    opened_there : history ≡ with_shard_step index (Start user) (Opened queue have) start
-    opened_there = opens ∙ ap (λ n. with_shard_step n (Start user) (Opened queue have) start) served
+    opened_there : history ≡ with_shard_step index (Start user salt moment types asked) (Opened queue have) start
+    opened_there = opens ∙ ap (λ n. with_shard_step n (Start user salt moment types asked) (Opened queue have) start) served
 
     below_there : index < length start.shards
-    below_there = let lines = lines_of_shards world history stands in omega (arith, as_many)
+    below_there = let traces = traces_of_shards world history represents in omega (arith, as_many)
 
-    is_opened : IsFedHistory history → IsOpened history
+    pub is_opened : IsFedHistory history → IsOpened types history
     is_opened fed =
-        let line_is : line_of index history ≡ opening_step ∷ line_of index start = ap (line_of index) opened_there ∙ line_at-with_step_at index opening_step start.shards below_there in
-        let tells = opened_tells pushed_stream given_rows (line_of index start) user queue have
-        (last_answer start index (Start user) (Opened queue have) below_there (subst IsFedHistory opened_there fed)) in
-        let lines = lines_of_shards world history stands in
-        let line_fed = line_is_fed history index fed (omega arith) in
-        let known = position_announced history.realm pushed_stream given_rows (line_of index history) line_fed.legal line_fed.fed in
-        let place : position (line_of index history) ≡ have = ap position line_is ∙ sym tells.1 in
+        let trace_is : trace_of index history ≡ opening_step ∷ trace_of index start = ap (trace_of index) opened_there ∙ trace_at-with_step_at index opening_step start.shards below_there in
+        let tells = opened_tells (shard_account pushed_events (trace_of index start)) given_rows user salt moment types asked queue have
+        (last_answer start index (Start user salt moment types asked) (Opened queue have) below_there (subst IsFedHistory opened_there fed)) in
+        let traces = traces_of_shards world history represents in
+        let trace_fed = trace_is_fed history index fed (omega arith) in
+        let announced = position_announced history.realm pushed_events given_rows (trace_of index history) trace_fed.legal trace_fed.fed in
+        let made = announced_within history.realm fed.realm in
+        let place : position_of (trace_of index history) ≡ have = ap position_of trace_is ∙ sym tells.1 in
         let itself = same_queue_itself queue in
         record {
           position = place;
-          opening = ap (is_opening queue) line_is ∙ (rw itself refl);
-          opened = ap (opened_at queue) line_is ∙ (rw itself refl);
+          account = ap (account_of pushed_events queue) trace_is
+              ∙ ap (λ (same : Bool). if same then opened_account types asked have moment else account_of pushed_events queue (trace_of index start)) itself;
           own = ap (λ (q : QueueId). q.user) tells.0;
-          announced = omega arith;
+          committed = omega arith;
         }
 
   module _ (old mid : WorldState) (index_is : index ≡ shard_of (length old.shards) user) (below : index < length old.shards) where
-    module _ (rows : Rows) (count : ℕ) where
-      abbrev pub fetched_part : Part
-      fetched_part = record { rows = rows; at = count }
-
-      may_complete : (before : History) → IsAt old (WasOpened user queue have) before → RealmAnswers before.realm (Fetch user) (Section rows count)
-          → MayComplete index queue have fetched_part (with_realm_step (Fetch user) (Section rows count) before)
-      may_complete before at right =
-          let is = is_opened old before at.holds.0 at.stands index_is below at.holds.1 at.fed in
-          let committed = right.2 in
-          let opened = is.opened in
-          let announced_at = is.announced in
-          let within = announced_within before.realm at.fed.realm in
+    module _ (parts : List FetchedSection) where
+      -- a queue whose sections were fetched may be completed
+      may_complete : (before between : History) → IsAt old (WasOpened user asked queue have) before
+          → IsAt mid (FetchesAll user asked (Some parts) before) between → MayComplete index queue have parts between
+      may_complete before between at now =
+          let types = at.holds.0 in
+          let is = is_opened old before at.holds.1 types at.represents index_is below at.holds.2 at.fed in
+          let fetches = now.holds.1 in
+          let in_order = now.holds.0 in
+          let are = fetched_parts user parts before (subst (λ h. IsLegalRealm h.realm) fetches now.fed.realm) in
+          let same_shards : between.shards ≡ before.shards = ap (λ h. h.shards) fetches ∙ fetches_shards user parts before in
+          let trace_is : trace_of index between ≡ trace_of index before = ap (λ shards. trace_at index shards) same_shards in
+          let account_is : queue_in index queue between ≡ opened_account types asked have moment = ap (account_of pushed_events queue) trace_is ∙ is.account in
+          let same_commands : commands between.realm ≡ commands before.realm = ap (λ h. commands h.realm) fetches ∙ fetches_commands user parts before in
+          let count : commits between.realm ≡ commits before.realm = ap (λ list. length list) same_commands in
+          let within = needed_within user (commands before.realm) (sections parts) parts are in
+          let were = were_fetched user have (commands before.realm) parts before is.committed are in
           record {
-            position = is.position;
-            committed = omega arith;
-            opening = is.opening;
-            asked = record {
+            position = ap position_of trace_is ∙ is.position;
+            fetched = omega arith;
+            asked = ap (λ (a : Account). a.asked) account_is ∙ sym in_order;
+            may = record {
               fed = tt;
-              parted = (inl (ap (λ u. record { input = Fetch u; reply = Section rows count }) (sym is.own)), omega arith);
-              served = ap (shard_of (length before.shards)) is.own ∙ serves old before user index at.stands index_is;
+              parted = subst (λ (a : Account). WereFetched between.realm queue.user (opening_place a) parts) (sym account_is)
+                  (subst (λ (h : History). WereFetched h.realm queue.user (Some have) parts) (sym fetches)
+                  (subst (λ (u : UserId). WereFetched (with_fetches user parts before).realm u (Some have) parts) (sym is.own) were));
+              served = ap (λ shards. shard_of (length shards) queue.user) same_shards ∙ ap (shard_of (length before.shards)) is.own ∙ serves old before user index at.represents index_is;
             };
           }
 
-      module _ (answers : (history : History) → WorldStands old history → RealmAnswers history.realm (Fetch user) (Section rows count))
-          (stands : (history : History) → WorldStands old history → WorldStands mid (with_realm_step (Fetch user) (Section rows count) history)) where
-        fetch_goes : Goes old mid (WasOpened user queue have) (λ before after.
-            (after ≡ with_realm_step (Fetch user) (Section rows count) before) × MayComplete index queue have fetched_part after)
-        fetch_goes = realm_goes old mid (Fetch user) (Section rows count) (WasOpened user queue have)
-            (λ before after. (after ≡ with_realm_step (Fetch user) (Section rows count) before) × MayComplete index queue have fetched_part after)
-            answers stands (λ before at right. (refl, may_complete before at right))
+      module _ (fetches : Continues old mid Any (FetchesAll user asked (Some parts))) where
+        fetches_when : Continues old mid (WasOpened user asked queue have) (FetchesAll user asked (Some parts))
+        fetches_when = goes_when (λ history opened. tt) fetches
 
-        -- a queue whose section was fetched may be completed
-        pub fill_ready : IsReady old (WasOpened user queue have) → IsReady mid (MayComplete index queue have fetched_part)
-        fill_ready ready = goes_ready ready fetch_goes (λ before after at now. now.holds.1)
+        pub fill_ready : IsReady old (WasOpened user asked queue have) → IsReady mid (MayComplete index queue have parts)
+        fill_ready ready = goes_ready ready fetches_when may_complete
 
-        completes_registers : (outcome : Outcome) (before between after : History) → WorldStands old before
-            → between ≡ with_realm_step (Fetch user) (Section rows count) before → MayComplete index queue have fetched_part between
-            → Completes index queue have fetched_part outcome between after → Registers user queue have outcome before after
-        completes_registers (Finished reached other last given) before between after there fetched may completes = λ start opens.
-            let place = completes.1.0 in
-            let caught = completes.1.1 in
-            let catches = completes.1.2 in
-            let at_start = served old before start there index_is below opens in
-            let lines = lines_of_shards old before there in
-            let many : length between.shards ≡ length before.shards = ap (λ h. length h.shards) fetched in
-            let kept = catches_keep index queue fetched_part count have between place caught (omega arith) catches may.position in
-            let at_caught : shard_of (length caught.shards) user ≡ index = ap (λ n. shard_of n user) (kept.0.many ∙ many) ∙ serves old before user index there index_is in
-            let fetched_there : between ≡ with_realm_step (Fetch user) (Section rows count) (with_step_for user (Start user) (Opened queue have) start) =
-            fetched ∙ ap (with_realm_step (Fetch user) (Section rows count)) opens in
-            let flow : PlaysRegister user queue last given reached start after = record {
+        -- a completed registration is played from its start
+        flow : (before between after start : History) (types : Types) (reply : ShardReply) (position : ℕ) (caught : History)
+            → IsAt old (WasOpened user asked queue have) before → IsAt mid (FetchesAll user asked (Some parts) before) between
+            → before ≡ with_opening user types asked queue have start
+            → CatchesUp index (commits between.realm) have between position caught
+            → after ≡ with_shard_step index (Finish queue parts) reply caught
+            → PlaysRegister user types asked queue reply start after
+        flow before between after start types reply position caught at now opens catches asks =
+            let fetched = now.holds.1 in
+            let may = may_complete before between at now in
+            let are = fetched_parts user parts before (subst (λ h. IsLegalRealm h.realm) fetched now.fed.realm) in
+            let within = needed_within user (commands before.realm) asked parts are in
+            let at_start = served old before start types at.represents index_is below opens in
+            let traces = traces_of_shards old before at.represents in
+            let many : length between.shards ≡ length before.shards = ap (λ h. length h.shards) fetched ∙ ap (λ shards. length shards) (fetches_shards user parts before) in
+            let kept = catches_keep index queue (commits between.realm) have between position caught (omega arith) catches may.position in
+            let at_caught : shard_of (length caught.shards) user ≡ index = ap (λ n. shard_of n user) (kept.0.many ∙ many) ∙ serves old before user index at.represents index_is in
+            let as_before : commits before.realm ≡ commits start.realm = ap (λ h. commits h.realm) opens in
+            let as_between : commits between.realm ≡ commits before.realm = ap (λ h. commits h.realm) fetched ∙ ap (λ list. length list) (fetches_commands user parts before) in
+            let need_is : commits between.realm ≡ max (needed asked parts) (commits start.realm) = omega arith in
+            let fetched_there : between ≡ with_fetches user parts (with_opening user types asked queue have start) = fetched ∙ ap (with_fetches user parts) opens in
+            record {
               have = have;
-              part = fetched_part;
-              position = place;
+              parts = parts;
+              position = position;
               caught = caught;
-              catches_up = subst (λ n. CatchesUp n count have (with_realm_step (Fetch user) (Section rows count) (with_step_for user (Start user) (Opened queue have) start)) place caught) (sym at_start)
-                  (subst (λ h. CatchesUp index count have h place caught) fetched_there catches);
-              finishes = completes.1.3 ∙ ap (λ n. with_shard_step n (Finish queue fetched_part) (finished given last reached) caught) (sym at_caught);
-            } in
-            subst (λ q. PlaysRegister user q last given reached start after) (sym completes.0) flow
-        completes_registers outcome before between after there fetched may completes = absurd completes
+              in_order = now.holds.0;
+              catches_up = subst (λ n. CatchesUp n (max (needed asked parts) (commits start.realm)) have (with_fetches user parts (with_opening user types asked queue have start)) position caught) (sym at_start)
+                  (subst (λ n. CatchesUp index n have (with_fetches user parts (with_opening user types asked queue have start)) position caught) need_is
+                  (subst (λ h. CatchesUp index (commits between.realm) have h position caught) fetched_there catches));
+              finishes = asks ∙ ap (λ n. with_shard_step n (Finish queue parts) reply caught) (sym at_caught);
+            }
+
+        completes_registers : (outcome : Outcome) (before between after : History) → IsAt old (WasOpened user asked queue have) before
+            → IsAt mid (FetchesAll user asked (Some parts) before) between
+            → (position : ℕ) (caught : History) → CatchesUp index (commits between.realm) have between position caught
+            → Finishes index queue parts outcome caught after → Registers user asked queue have outcome before after
+        completes_registers (Finished reached other last state) before between after at now position caught catches finishes = λ types start opens.
+            subst (λ q. PlaysRegister user types asked q (finished state last reached) start after) (sym finishes.0)
+            (flow before between after start types (finished state last reached) position caught at now opens catches finishes.1)
+        completes_registers BadQueue before between after at now position caught catches finishes = λ types start opens.
+            (queue, flow before between after start types bad_queue position caught at now opens catches finishes)
+        completes_registers outcome before between after at now position caught catches finishes = absurd finishes
 
         -- where it was completed, the registration is played
-        pub fill_goes : (new : WorldState) (result : Result Outcome NoMemory) → Goes mid new (MayComplete index queue have fetched_part) (OrStops result (Completes index queue have fetched_part))
-            → Goes old new (WasOpened user queue have) (OrStops result (Registers user queue have))
-        fill_goes new (Ok outcome) goes = goes_twice fetch_goes goes (λ before between at now. now.holds.1) (λ before between after at now last.
-            completes_registers outcome before between after at.stands now.holds.0 now.holds.1 last.holds)
-        fill_goes new (Err none) stops = goes_twice fetch_goes stops (λ before between at now. now.holds.1) (λ before between after at now last.
-            goes_on_from (subst (λ h. GoesOn before h) (sym now.holds.0) (asks_realm (Fetch user) (Section rows count) rests)) last.holds)
+        pub fill_goes : (new : WorldState) (result : Result Outcome NoMemory)
+            → Continues mid new (MayComplete index queue have parts) (OrStops result (Completes index queue have parts))
+            → Continues old new (WasOpened user asked queue have) (OrStops result (Registers user asked queue have))
+        fill_goes new (Ok outcome) goes = goes_twice fetches_when goes may_complete (λ before between after at now last.
+            completes_registers outcome before between after at now last.holds.position last.holds.caught last.holds.catches_up last.holds.finishes)
+        fill_goes new (Err none) stops = goes_twice fetches_when stops may_complete (λ before between after at now last.
+            goes_on_from (subst (λ h. Extends before h) (sym now.holds.1) (fetches_extend user parts before)) last.holds)
 
-    module _ (answers : (history : History) → WorldStands old history → RealmAnswers history.realm (Fetch user) fetch_refused)
-        (stands : (history : History) → WorldStands old history → WorldStands mid (with_realm_step (Fetch user) fetch_refused history)) where
-      may_delete : (before : History) → IsAt old (WasOpened user queue have) before → MayDelete index user queue (with_realm_step (Fetch user) fetch_refused before)
-      may_delete before at =
-          let is = is_opened old before at.holds.0 at.stands index_is below at.holds.1 at.fed in
+    module _ (refuses : Continues old mid Any (FetchesAll user asked None)) where
+      refuses_when : Continues old mid (WasOpened user asked queue have) (FetchesAll user asked None)
+      refuses_when = goes_when (λ history opened. tt) refuses
+
+      may_delete : (before between : History) → IsAt old (WasOpened user asked queue have) before
+          → IsAt mid (FetchesAll user asked None before) between → MayDelete index user queue between
+      may_delete before between at now =
+          let refused = now.holds in
+          let is = is_opened old before at.holds.1 at.holds.0 at.represents index_is below at.holds.2 at.fed in
+          let same_shards : between.shards ≡ before.shards = ap (λ h. h.shards) refused.refused ∙ fetches_shards user refused.parts before in
+          let trace_is : trace_of index between ≡ trace_of index before = ap (λ shards. trace_at index shards) same_shards in
           record {
-            held = ap (λ b. b || is_live queue (line_of index before)) is.opening;
+            held = ap (λ (a : Account). is_held a) (ap (account_of pushed_events queue) trace_is ∙ is.account);
             own = is.own;
-            asked = record { fed = tt; parted = tt; served = serves old before user index at.stands index_is };
+            may = record { fed = tt; parted = tt; served = ap (λ shards. shard_of (length shards) user) same_shards ∙ serves old before user index at.represents index_is };
           }
 
-      refuse_goes : Goes old mid (WasOpened user queue have) (λ before after. (after ≡ with_realm_step (Fetch user) fetch_refused before) × MayDelete index user queue after)
-      refuse_goes = realm_goes old mid (Fetch user) fetch_refused (WasOpened user queue have)
-          (λ before after. (after ≡ with_realm_step (Fetch user) fetch_refused before) × MayDelete index user queue after)
-          answers stands (λ before at right. (refl, may_delete before at))
-
-      -- a queue whose fetch was refused may be deleted
-      pub refused_ready : IsReady old (WasOpened user queue have) → IsReady mid (MayDelete index user queue)
-      refused_ready ready = goes_ready ready refuse_goes (λ before after at now. now.holds.1)
+      -- a queue of which a fetch was refused may be deleted
+      pub refused_ready : IsReady old (WasOpened user asked queue have) → IsReady mid (MayDelete index user queue)
+      refused_ready ready = goes_ready ready refuses_when may_delete
 
       -- where it was deleted, the registration is played
-      pub refused_goes : (new : WorldState) → Goes mid new (MayDelete index user queue) (Asks index (Delete user queue) Deleted)
-          → Goes old new (WasOpened user queue have) (Registers user queue have FetchRefused)
-      refused_goes new deletes = goes_twice refuse_goes deletes (λ before between at now. now.holds.1) (λ before between after at now last. λ start opens.
-          let refused = now.holds.0 in
-          let asked = last.holds in
-          let at_between : shard_of (length between.shards) user ≡ index = ap (λ h. shard_of (length h.shards) user) refused ∙ serves old before user index at.stands index_is in
+      pub refused_goes : (new : WorldState) → Continues mid new (MayDelete index user queue) (Asks index (Delete user queue) Deleted)
+          → Continues old new (WasOpened user asked queue have) (Registers user asked queue have FetchRefused)
+      refused_goes new deletes = goes_twice refuses_when deletes may_delete (λ before between after at now last. λ types start opens.
+          let refused = now.holds in
+          let same_shards : between.shards ≡ before.shards = ap (λ h. h.shards) refused.refused ∙ fetches_shards user refused.parts before in
+          let at_between : shard_of (length between.shards) user ≡ index = ap (λ shards. shard_of (length shards) user) same_shards ∙ serves old before user index at.represents index_is in
           record {
             queue = queue;
             have = have;
-            deletes = asked ∙ ap (λ n. with_shard_step n (Delete user queue) Deleted between) (sym at_between)
-                ∙ ap (with_step_for user (Delete user queue) Deleted) (refused ∙ ap (with_realm_step (Fetch user) fetch_refused) opens);
+            given_up = between;
+            fetches = subst (λ h. PlaysRefusedFetch user asked h between) opens refused;
+            deletes = last.holds ∙ ap (λ n. with_shard_step n (Delete user queue) Deleted between) (sym at_between);
           })
 
-module _ (old mid : WorldState) (user : UserId) (queue : QueueId) (have : ℕ)
-    (opens : Goes old mid Any (λ before after. after ≡ with_step_for user (Start user) (Opened queue have) before)) where
+module _ (old mid : WorldState) (user : UserId) (types : Types) (asked : List Section) (queue : QueueId) (have : ℕ)
+    (opens : Continues old mid Any (λ before after. after ≡ with_opening user types asked queue have before)) where
   -- a queue that was opened may be filled
-  pub register_ready : IsReady old Any → IsReady mid (WasOpened user queue have)
-  register_ready ready = goes_ready ready opens (λ before after at now. (before, now.holds))
+  pub register_ready : IsReady old Any → IsReady mid (WasOpened user asked queue have)
+  register_ready ready = goes_ready ready opens (λ before after at now. (types, before, now.holds))
 
   -- where it was filled, the registration is played
-  pub register_goes : (new : WorldState) (result : Result Outcome NoMemory) → Goes mid new (WasOpened user queue have) (OrStops result (Registers user queue have))
-      → Goes old new Any (OrStops result (Plays (Register user)))
-  register_goes new (Ok outcome) goes = goes_twice opens goes (λ before between at now. (before, now.holds)) (λ before between after at now last. last.holds before now.holds)
-  register_goes new (Err none) stops = goes_twice opens stops (λ before between at now. (before, now.holds)) (λ before between after at now last.
-      goes_on_from (subst (λ h. GoesOn before h) (sym now.holds) (asks_shard (shard_of (length before.shards) user) (Start user) (Opened queue have) rests)) last.holds)
+  pub register_goes : (new : WorldState) (result : Result Outcome NoMemory) → Continues mid new (WasOpened user asked queue have) (OrStops result (Registers user asked queue have))
+      → Continues old new Any (OrStops result (Plays (Register user types asked)))
+  register_goes new (Ok outcome) goes = goes_twice opens goes (λ before between at now. (types, before, now.holds)) (λ before between after at now last. last.holds types before now.holds)
+  register_goes new (Err none) stops = goes_twice opens stops (λ before between at now. (types, before, now.holds)) (λ before between after at now last.
+      goes_on_from (subst (λ h. Extends before h) (sym now.holds) (asks_shard (serving user before) (Start user salt moment types asked) (Opened queue have) rests)) last.holds)

@@ -1,30 +1,36 @@
--- What a part of a step does to the histories that a world stands for.
-use Rattle.std.specs.Prelude.{◌≡◌, ℕ, ◌+◌, ◌≤◌, true, List, Result, Ok, Err}
+-- What a part of a step does to the histories that a world represents.
+use Rattle.std.specs.Prelude.{◌≡◌, ℕ, ◌+◌, ◌≤◌, true, Option, None, Some, List, Result, Ok, Err}
 use Rattle.ev_base.specs.declared.ids.UserId.{UserId}
 use Rattle.ev_base.specs.declared.ids.QueueId.{QueueId}
 use Rattle.ev_rows.specs.declared.memory.NoMemory.{NoMemory}
-use Rattle.zw_lines.specs.declared.people.Notice.{Notice}
-use Rattle.zw_lines.specs.declared.realm.RealmInput.{RealmInput}
-use Rattle.zw_lines.specs.declared.realm.RealmInput.TheVariants.{Take}
-use Rattle.zw_lines.specs.declared.realm.RealmReply.{RealmReply}
-use Rattle.zw_lines.specs.declared.realm.RealmReply.TheVariants.{Notices}
-use Rattle.zw_lines.specs.declared.shard.Part.{Part}
-use Rattle.zw_lines.specs.declared.shard.ShardInput.{ShardInput}
-use Rattle.zw_lines.specs.declared.shard.ShardInput.TheVariants as shard
-use Rattle.zw_lines.specs.declared.shard.ShardReply.{ShardReply}
-use Rattle.zw_lines.specs.declared.shard.ShardReply.TheVariants as shard_reply
-use Rattle.zw_lines.specs.RealmLine.{announced, commits}
-use Rattle.zw_lines.specs.ShardLine.{ShardStep, is_held, is_opening, position}
-use Rattle.zw_lines.specs.Histories.{History, IsFedHistory, MayBeAsked, AreAnnounced, line_at, with_realm_step, with_shard_step}
-use Rattle.zw_world.specs.Worlds.{WorldState, WorldStands}
+use Rattle.ev_types.specs.declared.kind.Types.{Types}
+use Rattle.ev_types.specs.declared.section.Section.{Section}
+use Rattle.ev_types.specs.declared.notice.Notice.{Notice}
+use Rattle.zw_traces.specs.declared.realm.RealmInput.{RealmInput}
+use Rattle.zw_traces.specs.declared.realm.RealmInput.TheVariants.{Fetch, Take}
+use Rattle.zw_traces.specs.declared.realm.RealmReply.{RealmReply}
+use Rattle.zw_traces.specs.declared.realm.RealmReply.TheVariants.{FetchRefused as fetch_refused, Notices}
+use Rattle.zw_traces.specs.declared.shard.FetchedSection.{FetchedSection}
+use Rattle.zw_traces.specs.declared.shard.ShardInput.{ShardInput}
+use Rattle.zw_traces.specs.declared.shard.ShardInput.TheVariants as shard
+use Rattle.zw_traces.specs.declared.shard.ShardReply.{ShardReply}
+use Rattle.zw_traces.specs.declared.shard.ShardReply.TheVariants as shard_reply
+use Rattle.zw_traces.specs.declared.shard.ShardStep.{ShardStep}
+use Rattle.zw_traces.specs.FetchedSections.{needed}
+use Rattle.zw_traces.specs.RealmTrace.{announced_count, commits}
+use Rattle.zw_traces.specs.RealmFeeds.{AreAnnounced}
+use Rattle.zw_traces.specs.Account.{Account, is_held}
+use Rattle.zw_traces.specs.ShardTrace.{account_of, position_of, pushed_events}
+use Rattle.zw_traces.specs.Histories.{History, IsFedHistory, MayBeAsked, trace_at, with_realm_step, with_shard_step}
+use Rattle.zw_world.specs.Worlds.{WorldState, WorldRepresents}
 use Rattle.zs_script.specs.declared.step.Step.TheVariants.{Register}
 use Rattle.zm_text.specs.declared.outcome.Outcome.{Outcome}
-use Rattle.zm_text.specs.declared.outcome.Outcome.TheVariants.{Finished}
-use Rattle.zm_text.specs.Playing.{CatchesUp, Plays, Round, TakesAndPushes, with_step_for}
+use Rattle.zm_text.specs.declared.outcome.Outcome.TheVariants.{Finished, BadQueue}
+use Rattle.zm_text.specs.Playing.{CatchesUp, Plays, PlaysRefusedFetch, Round, TakesAndPushes, sections, with_fetch, with_fetches, with_opening}
 
--- the world stands for this history, which is fed, and the claim holds of it
+-- the world represents this history, which is fed, and the claim holds of it
 pub record IsAt (world : WorldState) (claim : History → Type 0) (history : History) : Type 0 where
-  pub stands : WorldStands world history
+  pub represents : WorldRepresents world history
   pub fed : IsFedHistory history
   pub holds : claim history
 
@@ -32,47 +38,60 @@ pub record IsAt (world : WorldState) (claim : History → Type 0) (history : His
 abbrev pub IsReady : WorldState → (History → Type 0) → Type 0
 IsReady world claim = (history : History) × IsAt world claim history
 
--- from each history of which the claim holds, the world goes on to one that is so after it
-abbrev pub Goes : WorldState → WorldState → (History → Type 0) → (History → History → Type 0) → Type 0
-Goes old new claim follows = (before : History) → IsAt old claim before → (after : History) × IsAt new (follows before) after
+-- from each history of which the claim holds, the world continues to one that follows it so
+abbrev pub Continues : WorldState → WorldState → (History → Type 0) → (History → History → Type 0) → Type 0
+Continues old new claim follows = (before : History) → IsAt old claim before → (after : History) × IsAt new (follows before) after
 
 -- of every history
 abbrev pub Any : History → Type 0
 Any history = Unit {0}
 
 -- the later history has the steps of the earlier one, and maybe more
-pub data GoesOn (before : History) : History → Type 0 where
-  rests : GoesOn before before
-  asks_realm : {after : History} (input : RealmInput) (reply : RealmReply) → GoesOn before after → GoesOn before (with_realm_step input reply after)
-  asks_shard : {after : History} (shard : ℕ) (input : ShardInput) (reply : ShardReply) → GoesOn before after → GoesOn before (with_shard_step shard input reply after)
+pub data Extends (before : History) : History → Type 0 where
+  rests : Extends before before
+  asks_realm : {after : History} (input : RealmInput) (reply : RealmReply) → Extends before after → Extends before (with_realm_step input reply after)
+  asks_shard : {after : History} (shard : ℕ) (input : ShardInput) (reply : ShardReply) → Extends before after → Extends before (with_shard_step shard input reply after)
 
--- the value is so, or it stopped for want of memory
+-- the value is so, or it stopped for out of memory
 abbrev pub OrStops : {V : Type 0} → Result V NoMemory → (V → History → History → Type 0) → History → History → Type 0
 OrStops (Ok value) follows before after = follows value before after
-OrStops (Err none) follows before after = GoesOn before after
+OrStops (Err none) follows before after = Extends before after
 
--- the line of a shard
-abbrev pub line_of : ℕ → History → List ShardStep
-line_of index history = line_at index history.shards
+-- the trace of a shard, and what it makes of a queue
+abbrev pub trace_of : ℕ → History → List ShardStep
+trace_of index history = trace_at index history.shards
 
--- the shard stands at a position, and so many notices were announced
+abbrev pub queue_in : ℕ → QueueId → History → Account
+queue_in index queue history = account_of pushed_events queue (trace_of index history)
+
+-- a section is fetched, or refused
+abbrev pub FetchesOne : UserId → Section → Option FetchedSection → History → History → Type 0
+FetchesOne user which (Some part) before after = (part.section ≡ which) × (after ≡ with_fetch user before part)
+FetchesOne user which None before after = after ≡ with_realm_step (Fetch user which) fetch_refused before
+
+-- sections are fetched in this order, or one of them is refused
+abbrev pub FetchesAll : UserId → List Section → Option (List FetchedSection) → History → History → Type 0
+FetchesAll user asked (Some parts) before after = (sections parts ≡ asked) × (after ≡ with_fetches user parts before)
+FetchesAll user asked None before after = PlaysRefusedFetch user asked before after
+
+-- the shard stands at a position, and this many notices were announced
 pub record IsDue (index need have : ℕ) (history : History) : Type 0 where
-  pub position : position (line_of index history) ≡ have
-  pub announced : need ≤ announced history.realm
+  pub position : position_of (trace_of index history) ≡ have
+  pub announced : need ≤ announced_count history.realm
 
--- the shard stands at a position, and so many commits were made
+-- the shard stands at a position, and this many commits were made
 pub record MayCatchUp (index need have : ℕ) (history : History) : Type 0 where
-  pub position : position (line_of index history) ≡ have
+  pub position : position_of (trace_of index history) ≡ have
   pub committed : need ≤ commits history.realm
 
 -- the notice with this number is the next that is due, and was announced
 pub record IsNext (index first : ℕ) (history : History) : Type 0 where
-  pub position : position (line_of index history) + 1 ≡ first
-  pub announced : first ≤ announced history.realm
+  pub position : position_of (trace_of index history) + 1 ≡ first
+  pub announced : first ≤ announced_count history.realm
 
 -- these are announced notices, and the first of them is the next that is due
 pub record MayPush (index first : ℕ) (notices : List Notice) (history : History) : Type 0 where
-  pub position : position (line_of index history) + 1 ≡ first
+  pub position : position_of (trace_of index history) + 1 ≡ first
   pub announced : AreAnnounced history.realm first notices
 
 -- a shard was asked and answered
@@ -90,46 +109,45 @@ pub record TakesNext (index first : ℕ) (reached : ℕ) (before after : History
 abbrev pub TakesUpTo : ℕ → ℕ → ℕ → ℕ → History → History → Type 0
 TakesUpTo index need have reached before after = (rounds : List Round) × TakesAndPushes index need have rounds before reached after
 
--- the queue was opened for the user in the latest step
-abbrev pub WasOpened : UserId → QueueId → ℕ → History → Type 0
-WasOpened user queue have history =
-    (start : History) × (history ≡ with_step_for user (shard.Start user) (shard_reply.Opened queue have) start)
+-- the queue was opened for the user in the latest step, to be finished with these sections
+abbrev pub WasOpened : UserId → List Section → QueueId → ℕ → History → Type 0
+WasOpened user asked queue have history = (types : Types) × (start : History) × (history ≡ with_opening user types asked queue have start)
 
 -- so the registration is played from where the queue was opened
-abbrev pub Registers : UserId → QueueId → ℕ → Outcome → History → History → Type 0
-Registers user queue have outcome before after =
-    (start : History) → (before ≡ with_step_for user (shard.Start user) (shard_reply.Opened queue have) start)
-    → Plays (Register user) outcome start after
+abbrev pub Registers : UserId → List Section → QueueId → ℕ → Outcome → History → History → Type 0
+Registers user asked queue have outcome before after =
+    (types : Types) (start : History) → (before ≡ with_opening user types asked queue have start)
+    → Plays (Register user types asked) outcome start after
 
--- the queue may be finished with this part, once the shard has caught up to it
-pub record MayComplete (index : ℕ) (queue : QueueId) (have : ℕ) (part : Part) (history : History) : Type 0 where
-  pub position : position (line_of index history) ≡ have
-  pub committed : part.at ≤ commits history.realm
-  pub opening : is_opening queue (line_of index history) ≡ true
-  pub asked : MayBeAsked history index (shard.Finish queue part)
+-- the queue is known, and once its shard has caught up may be finished with these sections
+pub record MayComplete (index : ℕ) (queue : QueueId) (have : ℕ) (parts : List FetchedSection) (history : History) : Type 0 where
+  pub position : position_of (trace_of index history) ≡ have
+  pub fetched : needed (sections parts) parts ≤ commits history.realm
+  pub asked : (queue_in index queue history).asked ≡ sections parts
+  pub may : MayBeAsked history index (shard.Finish queue parts)
 
--- the shard catches up to the part, and finishes the queue with it
-abbrev pub Completes : ℕ → QueueId → ℕ → Part → Outcome → History → History → Type 0
-Completes index queue have part (Finished reached other last rows) before after =
-    (other ≡ queue)
-    × ((place : ℕ) × (caught : History) × CatchesUp index part.at have before place caught
-    × Asks index (shard.Finish queue part) (shard_reply.Finished rows last reached) caught after)
-Completes index queue have part outcome before after = ⊥
+-- the queue is finished with these sections, or was ended meanwhile
+abbrev pub Finishes : ℕ → QueueId → List FetchedSection → Outcome → History → History → Type 0
+Finishes index queue parts (Finished reached other last state) before after =
+    (other ≡ queue) × Asks index (shard.Finish queue parts) (shard_reply.Finished state last reached) before after
+Finishes index queue parts BadQueue before after = Asks index (shard.Finish queue parts) shard_reply.BadQueue before after
+Finishes index queue parts outcome before after = ⊥
 
--- the queue is finished with this part
-abbrev pub Finishes : ℕ → QueueId → Part → Outcome → History → History → Type 0
-Finishes index queue part (Finished reached other last rows) before after =
-    (other ≡ queue) × Asks index (shard.Finish queue part) (shard_reply.Finished rows last reached) before after
-Finishes index queue part outcome before after = ⊥
+-- the shard catches up to all commits, and finishes the queue with these sections
+pub record Completes (index : ℕ) (queue : QueueId) (have : ℕ) (parts : List FetchedSection) (outcome : Outcome) (before after : History) : Type 0 where
+  pub position : ℕ
+  pub caught : History
+  pub catches_up : CatchesUp index (commits before.realm) have before position caught
+  pub finishes : Finishes index queue parts outcome caught after
 
--- the queue may be finished with this part
-pub record MayFinish (index : ℕ) (queue : QueueId) (part : Part) (history : History) : Type 0 where
-  pub opening : is_opening queue (line_of index history) ≡ true
-  pub caught_up : part.at ≤ position (line_of index history)
-  pub asked : MayBeAsked history index (shard.Finish queue part)
+-- a finish with these sections is neither early nor lacks one
+pub record MayFinish (index : ℕ) (queue : QueueId) (parts : List FetchedSection) (history : History) : Type 0 where
+  pub asked : (queue_in index queue history).asked ≡ sections parts
+  pub caught_up : needed (sections parts) parts ≤ position_of (trace_of index history)
+  pub may : MayBeAsked history index (shard.Finish queue parts)
 
 -- the queue may be deleted by its user
 pub record MayDelete (index : ℕ) (user : UserId) (queue : QueueId) (history : History) : Type 0 where
-  pub held : is_held queue (line_of index history) ≡ true
+  pub held : is_held (queue_in index queue history) ≡ true
   pub own : queue.user ≡ user
-  pub asked : MayBeAsked history index (shard.Delete user queue)
+  pub may : MayBeAsked history index (shard.Delete user queue)

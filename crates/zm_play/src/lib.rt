@@ -2,9 +2,11 @@
 #![tactic(auto)]
 
 mod committing;
+mod fetching;
 mod player;
 mod polling;
 mod pushing;
 mod registering;
+mod states;
 
 pub use player::Player;

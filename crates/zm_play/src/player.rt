@@ -1,9 +1,12 @@
+//! The player of a script's steps.
+
 ghost use Rattle.std.specs.Prelude.{◌≡◌, IfOk, OnErr, length};
-ghost use Rattle.zw_lines.specs.Histories.{opening_history};
-ghost use Rattle.zw_world.specs.Worlds.{WorldStands};
+ghost use Rattle.zw_traces.specs.Histories.{opening_history};
+ghost use Rattle.zw_world.specs.Worlds.{WorldRepresents};
 ghost use Rattle.zm_play.specs.Played.{NamesAShard, Played, Stopped};
 
 use crate::committing::{announce, commit};
+use crate::fetching::view;
 use crate::polling::poll;
 use crate::pushing::push;
 use crate::registering::register;
@@ -35,15 +38,15 @@ impl Player {
     /// A player over a world with one shard and no step.
     pub fn new(alloc: Global) -> Result<Player, NoMemory>
         ensures { IfOk result
-            (λ player. (WorldStands player (opening_history 1)) × (length player.shards ≡ 1)) }
+            (λ player. (WorldRepresents player (opening_history 1)) × (length player.shards ≡ 1)) }
     {
         Ok(Player {
             world: World::new(alloc, 1)?,
         })
     }
 
-    /// Plays a step and tells what comes of it. After want of memory the world stands for a history
-    /// that goes on from the one before.
+    /// Plays a step and tells what comes of it. After out of memory the world represents a history
+    /// that extends the one before.
     pub fn play(&mut self, alloc: Global, step: Step) -> Result<Outcome, NoMemory>
         requires { NamesAShard (length self.old.shards) step }
         ensures played { IfOk result (λ outcome. Played self.old self.new step outcome) }
@@ -58,8 +61,14 @@ impl Player {
                 Ok(Outcome::Noticed { count })
             }
             Step::Push { shard } => push(world, alloc, shard),
-            Step::Register { user } => register(world, alloc, user),
-            Step::Poll { user, queue, after } => poll(world, alloc, user, queue, after),
+            Step::Register { user, types, asked } => register(world, alloc, user, types, asked),
+            Step::Poll {
+                user,
+                queue,
+                after,
+                beat,
+            } => poll(world, alloc, user, queue, after, beat),
+            Step::View { user } => view(world, alloc, user),
         }
     }
 }

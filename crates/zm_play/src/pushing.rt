@@ -1,24 +1,24 @@
 //! Bringing announced notices to a shard.
 
 ghost use Rattle.std.specs.Prelude.{◌≡◌, ◌<◌, length};
-ghost use Rattle.zw_lines.specs.ShardLine.{position};
 ghost use Rattle.zs_script.specs.declared.step.Step.{Step};
 ghost use Rattle.zm_text.specs.Playing.{CatchesUp, Plays};
-ghost use Rattle.zw_shard.specs.ShardStanding.{AreNumbered};
-ghost use Rattle.zm_play.specs.Flows.{Any, Asks, Goes, IsDue, IsNext, IsReady, MayCatchUp, MayPush, OrStops, TakesNext, TakesUpTo};
+ghost use Rattle.q_shard.specs.ShardInputs.{AreNumbered};
+ghost use Rattle.zm_play.specs.Flows.{Any, Asks, Continues, IsDue, IsNext, IsReady, MayCatchUp, MayPush, OrStops, TakesNext, TakesUpTo};
 
 use crate::committing::announce;
 use ev_base::{Listed, NoMemory};
+use ev_types::Notice;
 use std::alloc::Global;
 use zm_text::Outcome;
-use zw_lines::{Notice, RealmInput, RealmReply, ShardInput, ShardReply};
+use zw_traces::{RealmInput, RealmReply, ShardInput, ShardReply};
 use zw_world::World;
 
 /// Brings a shard all announced notices that it lacks.
 pub fn push(world: &mut World, alloc: Global, shard: u32) -> Result<Outcome, NoMemory>
     requires index { shard < length world.old.shards }
     requires ready { IsReady world.old Any }
-    ensures goes { Goes world.old world.new Any (OrStops result (Plays (Step.Push shard))) }
+    ensures continues { Continues world.old world.new Any (OrStops result (Plays (Step.Push shard))) }
     ensures shards { length world.new.shards ≡ length world.old.shards }
 {
     let have = locate(world, alloc, shard);
@@ -30,7 +30,7 @@ pub fn push(world: &mut World, alloc: Global, shard: u32) -> Result<Outcome, NoM
 /// Asks a shard how many notices were pushed to it.
 fn locate(world: &mut World, alloc: Global, shard: u32) -> u64
     requires index { shard < length world.old.shards }
-    ensures goes { Goes world.old world.new Any (Asks shard ShardInput.Locate (ShardReply.At result)) }
+    ensures continues { Continues world.old world.new Any (Asks shard ShardInput.Locate (ShardReply.At result)) }
     ensures shards { length world.new.shards ≡ length world.old.shards }
 {
     match world.ask_shard(alloc, shard, ShardInput::Locate) {
@@ -50,7 +50,7 @@ pub fn catch_up(
 ) -> Result<u64, NoMemory>
     requires index { shard < length world.old.shards }
     requires ready { IsReady world.old (MayCatchUp shard need have) }
-    ensures goes { Goes world.old world.new (MayCatchUp shard need have)
+    ensures continues { Continues world.old world.new (MayCatchUp shard need have)
         (OrStops result (λ reached before after. CatchesUp shard need have before reached after)) }
     ensures shards { length world.new.shards ≡ length world.old.shards }
 {
@@ -71,7 +71,7 @@ fn take_and_push(
 ) -> Result<u64, NoMemory>
     requires index { shard < length world.old.shards }
     requires ready { IsReady world.old (IsDue shard need have) }
-    ensures goes { Goes world.old world.new (IsDue shard need have)
+    ensures continues { Continues world.old world.new (IsDue shard need have)
         (OrStops result (λ reached. TakesUpTo shard need have reached)) }
     ensures shards { length world.new.shards ≡ length world.old.shards }
 {
@@ -86,7 +86,7 @@ fn take_and_push(
 fn push_next(world: &mut World, alloc: Global, shard: u32, first: u64) -> Result<u64, NoMemory>
     requires index { shard < length world.old.shards }
     requires ready { IsReady world.old (IsNext shard first) }
-    ensures goes { Goes world.old world.new (IsNext shard first)
+    ensures continues { Continues world.old world.new (IsNext shard first)
         (OrStops result (λ reached. TakesNext shard first reached)) }
     ensures shards { length world.new.shards ≡ length world.old.shards }
 {
@@ -108,7 +108,7 @@ fn push_notices(
     requires index { shard < length world.old.shards }
     requires numbered { AreNumbered first notices }
     requires ready { IsReady world.old (MayPush shard first notices) }
-    ensures goes { Goes world.old world.new (MayPush shard first notices)
+    ensures continues { Continues world.old world.new (MayPush shard first notices)
         (OrStops result (λ reached. Asks shard (ShardInput.Push first notices) (ShardReply.Pushed reached))) }
     ensures shards { length world.new.shards ≡ length world.old.shards }
 {

@@ -1,27 +1,52 @@
 //! The flow of a registration.
 
-ghost use Rattle.std.specs.Prelude.{◌≡◌, ◌<◌, length};
+ghost use Rattle.std.specs.Prelude.{◌≡◌, ◌<◌, IfOk, length};
 ghost use Rattle.zs_script.specs.declared.step.Step.{Step};
+ghost use Rattle.zw_traces.specs.Histories.{shard_of};
+ghost use Rattle.zw_traces.specs.declared.shard.ShardInput.{ShardInput};
+ghost use Rattle.zw_traces.specs.declared.shard.ShardReply.{ShardReply};
 ghost use Rattle.zm_text.specs.Playing.{Plays};
-ghost use Rattle.zw_lines.specs.Histories.{shard_of};
-ghost use Rattle.zm_play.specs.Flows.{Any, Asks, Completes, Finishes, Goes, IsReady, MayComplete, MayDelete, MayFinish, OrStops, Registers, WasOpened};
+ghost use Rattle.zm_play.specs.Flows.{Any, Asks, Completes, Continues, Finishes, IsReady, MayComplete, MayDelete, MayFinish, OrStops, Registers, WasOpened};
 
+use crate::fetching::fetch;
 use crate::pushing::catch_up;
-use ev_base::{NoMemory, QueueId, UserId};
+use ev_base::{Listed, NoMemory, QueueId, UserId};
+use ev_types::{Section, Types};
 use std::alloc::Global;
-use zm_text::Outcome;
-use zw_lines::{Part, RealmInput, RealmReply, ShardInput, ShardReply};
+use zm_text::{MOMENT, Outcome, SALT};
+use zw_traces::{FetchedSection, ShardInput, ShardReply};
 use zw_world::World;
 
 /// Registers a user at the shard that serves it.
-pub fn register(world: &mut World, alloc: Global, user: UserId) -> Result<Outcome, NoMemory>
+pub fn register(
+    world: &mut World,
+    alloc: Global,
+    user: UserId,
+    types: Types,
+    asked: Listed<Section>,
+) -> Result<Outcome, NoMemory>
     requires ready { IsReady world.old Any }
-    ensures goes { Goes world.old world.new Any (OrStops result (Plays (Step.Register user))) }
+    ensures continues { Continues world.old world.new Any
+        (OrStops result (Plays (Step.Register user types asked))) }
     ensures shards { length world.new.shards ≡ length world.old.shards }
 {
     let shard = world.serving(user);
-    match world.ask_shard(alloc, shard, ShardInput::Start { user }) {
-        ShardReply::Opened { queue, position } => fill(world, alloc, user, queue, position),
+    let sections = copied(alloc, asked.as_slice())?;
+    let (salt, moment) = (SALT, MOMENT);
+    match world.ask_shard(
+        alloc,
+        shard,
+        ShardInput::Start {
+            user,
+            salt,
+            moment,
+            types,
+            asked,
+        },
+    ) {
+        ShardReply::Opened { queue, position } => {
+            fill(world, alloc, user, &sections, queue, position)
+        }
         ShardReply::OpensSpent => Ok(Outcome::OpensSpent),
         ShardReply::TooManyQueues => Ok(Outcome::TooManyQueues),
         ShardReply::NoMemory => Err(NoMemory),
@@ -29,78 +54,85 @@ pub fn register(world: &mut World, alloc: Global, user: UserId) -> Result<Outcom
     }
 }
 
-/// Fetches the section for an opened queue and finishes it. Where the fetch is refused, the queue
-/// is deleted.
+fn copied(alloc: Global, sections: &[Section]) -> Result<Vec<Section>, NoMemory>
+    ensures { IfOk result (λ copy. copy.items ≡ sections.now) }
+{
+    Ok(sections.to_vec(alloc)?)
+}
+
+/// Fetches the sections for an opened queue and finishes it. Where a fetch is refused, the queue is
+/// deleted.
 fn fill(
     world: &mut World,
     alloc: Global,
     user: UserId,
+    asked: &[Section],
     queue: QueueId,
     have: u64,
 ) -> Result<Outcome, NoMemory>
-    requires ready { IsReady world.old (WasOpened user queue have) }
-    ensures goes { Goes world.old world.new (WasOpened user queue have)
-        (OrStops result (Registers user queue have)) }
+    requires ready { IsReady world.old (WasOpened user asked.now queue have) }
+    ensures continues { Continues world.old world.new (WasOpened user asked.now queue have)
+        (OrStops result (Registers user asked.now queue have)) }
     ensures shards { length world.new.shards ≡ length world.old.shards }
 {
     let shard = world.serving(user);
-    match world.ask_realm(alloc, RealmInput::Fetch { user }) {
-        RealmReply::Section { rows, at } => {
-            complete(world, alloc, shard, queue, have, Part { rows, at })
-        }
-        RealmReply::FetchRefused => {
+    match fetch(world, alloc, user, asked)? {
+        Some(parts) => complete(world, alloc, shard, queue, have, parts),
+        None => {
             delete(world, alloc, shard, user, queue);
             Ok(Outcome::FetchRefused)
         }
-        RealmReply::NoMemory => Err(NoMemory),
-        _ => unreachable!(),
     }
 }
 
-/// Catches a shard up to a fetched section, and finishes the queue with it.
+/// Catches a shard up to all commits, which are those at the start of the registration and the latest
+/// that a section was fetched at, and finishes the queue with the sections.
 fn complete(
     world: &mut World,
     alloc: Global,
     shard: u32,
     queue: QueueId,
     have: u64,
-    part: Part,
+    parts: Listed<FetchedSection>,
 ) -> Result<Outcome, NoMemory>
     requires index { shard < length world.old.shards }
-    requires ready { IsReady world.old (MayComplete shard queue have part) }
-    ensures goes { Goes world.old world.new (MayComplete shard queue have part)
-        (OrStops result (Completes shard queue have part)) }
+    requires ready { IsReady world.old (MayComplete shard queue have parts) }
+    ensures continues { Continues world.old world.new (MayComplete shard queue have parts)
+        (OrStops result (Completes shard queue have parts)) }
     ensures shards { length world.new.shards ≡ length world.old.shards }
 {
-    catch_up(world, alloc, shard, part.at, have)?;
-    finish(world, alloc, shard, queue, part)
+    let need = world.commits();
+    catch_up(world, alloc, shard, need, have)?;
+    finish(world, alloc, shard, queue, parts)
 }
 
-/// Finishes an opening queue of a shard that has caught up.
+/// Finishes an opening queue of a shard that has caught up. Among the notices may have been one that
+/// ended the queue.
 fn finish(
     world: &mut World,
     alloc: Global,
     shard: u32,
     queue: QueueId,
-    part: Part,
+    parts: Listed<FetchedSection>,
 ) -> Result<Outcome, NoMemory>
     requires index { shard < length world.old.shards }
-    requires ready { IsReady world.old (MayFinish shard queue part) }
-    ensures goes { Goes world.old world.new (MayFinish shard queue part)
-        (OrStops result (Finishes shard queue part)) }
+    requires ready { IsReady world.old (MayFinish shard queue parts) }
+    ensures continues { Continues world.old world.new (MayFinish shard queue parts)
+        (OrStops result (Finishes shard queue parts)) }
     ensures shards { length world.new.shards ≡ length world.old.shards }
 {
-    match world.ask_shard(alloc, shard, ShardInput::Finish { queue, part }) {
+    match world.ask_shard(alloc, shard, ShardInput::Finish { queue, parts }) {
         ShardReply::Finished {
-            rows,
+            state,
             last_event_id,
             reached,
         } => Ok(Outcome::Finished {
             reached,
             queue,
             last_event_id,
-            rows,
+            state,
         }),
+        ShardReply::BadQueue => Ok(Outcome::BadQueue),
         ShardReply::NoMemory => Err(NoMemory),
         _ => unreachable!(),
     }
@@ -110,7 +142,7 @@ fn finish(
 fn delete(world: &mut World, alloc: Global, shard: u32, user: UserId, queue: QueueId)
     requires index { shard < length world.old.shards }
     requires ready { IsReady world.old (MayDelete shard user queue) }
-    ensures goes { Goes world.old world.new (MayDelete shard user queue)
+    ensures continues { Continues world.old world.new (MayDelete shard user queue)
         (Asks shard (ShardInput.Delete user queue) ShardReply.Deleted) }
     ensures shards { length world.new.shards ≡ length world.old.shards }
 {

@@ -9,9 +9,9 @@ use Rattle.zm_run.specs.declared.runner.Runner.{Runner}
 use Rattle.zm_run.specs.declared.runner.Stop.{Stop}
 use Rattle.zm_run.specs.declared.runner.Stop.TheVariants.{BadLine, NoMemory}
 use Rattle.zm_run.specs.declared.status.Status.TheVariants as status
-use Rattle.zm_run.specs.Inputs.{AreLines, HasNoFeed, SplitsWhole, bytes_of}
-use Rattle.zm_run.specs.Ends.{ReadSome, Replays, WroteSome, shards}
-use Rattle.zm_run.specs.Running.{Grows, PlayedOn, PlayedToEnd, Running, ScriptsAreSound, Stands, StaysAsItWas, StoppedIn, pending_of}
+use Rattle.zm_run.specs.Inputs.{AreLines, HasNoFeed, SplitsWhole, bytes_of, shards}
+use Rattle.zm_run.specs.RunEnds.{ReadSome, Replays, WroteSome}
+use Rattle.zm_run.specs.Running.{Grows, PlayedOn, PlayedToEnd, Running, Represents, StaysAsItWas, StoppedIn, pending_of}
 use Rattle.zm_run.specs.Stops.{status_of}
 use Rattle.zm_run.proofs.Feeds.{lines_within}
 use Rattle.zm_run.proofs.Told.{told_nothing}
@@ -72,7 +72,7 @@ pub running_after_piece : (left left' held before after : Option (List ℕ)) (ol
 running_after_piece left left' held before after old mid new input input' used running on puts emptied player counts pending read =
     let text = running.written ++ mid.output.items in
     let same : text ≡ text ++ new.output.items = sym (append-nil text) ∙ ap (λ t. text ++ t) (sym emptied) in
-    let stands : Stands mid.player on.after (text ++ new.output.items) = subst (λ t. Stands mid.player on.after t) same on.played.stands in
+    let represents : Represents mid.player on.after (text ++ new.output.items) = subst (λ t. Represents mid.player on.after t) same on.played.represents in
     record {
       read = running.read;
       written = text;
@@ -80,7 +80,7 @@ running_after_piece left left' held before after old mid new input input' used r
       took = running.took;
       gave = Gains-chain held before after running.written mid.output.items running.gave puts;
       played = record {
-        stands = subst (λ p. Stands p on.after (text ++ new.output.items)) (sym player) stands;
+        represents = subst (λ p. Represents p on.after (text ++ new.output.items)) (sym player) represents;
         counted = counts ∙ on.played.counted;
         good = on.played.good;
       };
@@ -94,10 +94,10 @@ running_after_piece left left' held before after old mid new input input' used r
     }
 
 -- a part of the text is written
-wrote_some : (read written output : List ℕ) (lines : List (List ℕ)) (rest : List ℕ) (n : ℕ)
-    → (read ≡ bytes_of lines ++ rest) ⊎ SplitsWhole read lines → AreLines lines → HasText shards lines (written ++ output)
-    → WroteSome read (written ++ take n output)
-wrote_some read written output lines rest n begins good text = record {
+wrote_some : (read written output : List ℕ) (lines : List (List ℕ)) (rest : List ℕ) (left : Option (List ℕ)) (n : ℕ)
+    → (read ≡ bytes_of lines ++ rest) ⊎ (SplitsWhole read lines × IsSpent left) → AreLines lines
+    → HasText shards lines (written ++ output) → WroteSome read (written ++ take n output) left
+wrote_some read written output lines rest left n begins good text = record {
   lines = lines;
   rest = rest;
   text = written ++ output;
@@ -126,9 +126,9 @@ fault_after_piece left left' held before after old mid input used running on put
   written = running.written ++ take puts.0 mid.output.items;
   took = running.took;
   gave = Gains-chain held before after running.written (take puts.0 mid.output.items) running.gave puts.2;
-  ends = wrote_some running.read running.written mid.output.items on.after (drop used (pending_of input)) puts.0
+  ends = wrote_some running.read running.written mid.output.items on.after (drop used (pending_of input)) left' puts.0
       (inl (rest_of_piece running.lines on.after running.read (pending_of input) used running.whole on.spelled))
-      on.played.good on.played.stands.told;
+      on.played.good on.played.represents.told;
 }
 
 -- a write failed after a line wasn't played
@@ -141,7 +141,7 @@ fault_after_stop left left' held before after stop old mid input running stopped
   written = running.written ++ take puts.0 mid.output.items;
   took = running.took;
   gave = Gains-chain held before after running.written (take puts.0 mid.output.items) running.gave puts.2;
-  ends = wrote_some running.read running.written mid.output.items stopped.after stopped.rest puts.0
+  ends = wrote_some running.read running.written mid.output.items stopped.after stopped.rest left' puts.0
       (inl (running.whole ∙ stopped.spelled)) stopped.good stopped.text;
 }
 
@@ -158,20 +158,20 @@ fault_in_piece left left' held before after old mid input (Err stop) running goe
 
 -- a write failed, whatever came of the last line
 pub fault_at_end : (left left' held before after : Option (List ℕ)) (old mid : Runner) (input : Input) (played : Result (Unit {0}) Stop)
-    → (running : Running left left' held before old input)
+    → (running : Running left left' held before old input) → IsSpent left'
     → MatchResult played (λ _. PlayedToEnd mid running.lines running.written (pending_of input))
     (λ stop. StoppedIn stop mid running.lines running.written (pending_of input) left')
     → PutsAll Failed before mid.output.items after → Replays status.WriteFault left left' held after
-fault_at_end left left' held before after old mid input (Err stop) running goes puts =
+fault_at_end left left' held before after old mid input (Err stop) running spent goes puts =
     fault_after_stop left left' held before after stop old mid input running goes puts
-fault_at_end left left' held before after old mid input (Ok done) running goes puts = record {
+fault_at_end left left' held before after old mid input (Ok done) running spent goes puts = record {
   read = running.read;
   written = running.written ++ take puts.0 mid.output.items;
   took = running.took;
   gave = Gains-chain held before after running.written (take puts.0 mid.output.items) running.gave puts.2;
-  ends = wrote_some running.read running.written mid.output.items goes.after [] puts.0
-      (inr (subst (λ r. SplitsWhole r goes.after) (sym running.whole) goes.split))
-      goes.played.good goes.played.stands.told;
+  ends = wrote_some running.read running.written mid.output.items goes.after [] left' puts.0
+      (inr (subst (λ r. SplitsWhole r goes.after) (sym running.whole) goes.split, spent))
+      goes.played.good goes.played.represents.told;
 }
 
 -- a line wasn't played, and the output before it was written
@@ -222,7 +222,7 @@ ends_done left left' held before after old mid input running spent goes puts = r
     lines = goes.after;
     spent = spent;
     split = subst (λ r. SplitsWhole r goes.after) (sym running.whole) goes.split;
-    text = goes.played.stands.told;
+    text = goes.played.represents.told;
   };
 }
 
@@ -232,7 +232,7 @@ written_text : (left left' held held' : Option (List ℕ)) (runner : Runner) (in
 written_text left left' held held' runner input running =
     let none : running.written ++ runner.output.items ≡ running.written =
     ap (λ t. running.written ++ t) running.handed ∙ append-nil running.written in
-    subst (λ t. HasText shards running.lines t) none running.played.stands.told
+    subst (λ t. HasText shards running.lines t) none running.played.represents.told
 
 read_some : (left left' held held' : Option (List ℕ)) (runner : Runner) (input : Input)
     → (running : Running left left' held held' runner input) → HasNoFeed (pending_of input) → ReadSome running.read running.written
@@ -255,8 +255,8 @@ ends_at_fault left left' held held' runner input running no_feed = record {
 }
 
 -- memory was wanted before anything was read
-pub ends_at_first : ScriptsAreSound → (left held : Option (List ℕ)) → Replays status.NoMemory left left held held
-ends_at_first sound left held = record {
+pub ends_at_first : (left held : Option (List ℕ)) → Replays status.NoMemory left left held held
+ends_at_first left held = record {
   read = [];
   written = [];
   took = Loses-nothing left;
@@ -268,7 +268,7 @@ ends_at_first sound left held = record {
     more = [];
     begins = inl refl;
     good = tt;
-    whole = told_nothing sound;
+    whole = told_nothing;
     part = refl;
   };
 }

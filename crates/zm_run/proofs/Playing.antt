@@ -3,46 +3,54 @@ use Rattle.std.proofs.Common.{◌≡◌, ◌≢◌, ℕ, suc, ◌+◌, ◌<◌, 
 use Rattle.std.proofs.lemmas.List.{take-append-drop}
 use Rattle.ev_ports.specs.Ports.{IsSpent}
 use Rattle.zs_script.specs.declared.step.Step.{Step}
+use Rattle.zs_script.specs.declared.step.Step.TheVariants.{Push}
 use Rattle.zs_script.specs.Grammar.{IsPassedOver, Spells}
+use Rattle.zs_script.proofs.PushedShards.{line_pushes}
+use Rattle.zm_play.specs.Played.{NamesAShard}
 use Rattle.zm_text.specs.Outcomes.{text_of_outcome}
 use Rattle.zm_text.specs.Texts.{HasText}
 use Rattle.zm_run.specs.declared.runner.Runner.{Runner}
 use Rattle.zm_run.specs.declared.runner.Stop.{Stop}
 use Rattle.zm_run.specs.declared.runner.Stop.TheVariants.{BadLine, NoMemory}
-use Rattle.zm_run.specs.Inputs.{BeginsNoStep, BeginsTooLong, HasNoFeed, IsLine, bytes_of, longest_line}
-use Rattle.zm_run.specs.Ends.{shards}
-use Rattle.zm_run.specs.Running.{HasPlayed, IsBad, IsWhy, PlayedOn, PlayedToEnd, PlaysStep, ScriptsAreSound, Stands, StoppedIn}
+use Rattle.zm_run.specs.Inputs.{BeginsNoStep, BeginsTooLong, HasNoFeed, IsLine, bytes_of, max_line_bytes}
+use Rattle.zm_run.specs.Inputs.{shards}
+use Rattle.zm_run.specs.Running.{HasPlayed, IsBad, IsWhy, PlayedOn, PlayedToEnd, PlaysStep, Represents, StoppedIn}
 use Rattle.zm_run.proofs.Feeds.{line_taken, line_begins}
-use Rattle.zm_run.proofs.Told.{stands_past, stands_after}
+use Rattle.zm_run.proofs.Told.{represents_past, represents_after}
+
+-- a step that is read names a shard that is there
+pub names_a_shard : (line : List ℕ) (step : Step) → Spells shards line step → NamesAShard shards step
+names_a_shard line (Push shard) spells = line_pushes shards line shard spells
+names_a_shard line step spells = tt
 
 -- a line that is passed over was played
 pub passes_line : (old new : Runner) (line : List ℕ) (lines : List (List ℕ)) (written : List ℕ) → IsLine line → IsPassedOver line
     → new.player ≡ old.player → new.output.items ≡ old.output.items → new.lines ≡ old.lines + 1
     → HasPlayed old lines written → HasPlayed new (line ∷ lines) written
 passes_line old new line lines written is_line passes player output counts played =
-    let stands = stands_past old.player line lines (written ++ old.output.items) passes played.stands in
-    let told : Stands new.player (line ∷ lines) (written ++ old.output.items) =
-    subst (λ p. Stands p (line ∷ lines) (written ++ old.output.items)) (sym player) stands in
+    let represents = represents_past old.player line lines (written ++ old.output.items) passes played.represents in
+    let told : Represents new.player (line ∷ lines) (written ++ old.output.items) =
+    subst (λ p. Represents p (line ∷ lines) (written ++ old.output.items)) (sym player) represents in
     record {
-      stands = subst (λ t. Stands new.player (line ∷ lines) (written ++ t)) (sym output) told;
+      represents = subst (λ t. Represents new.player (line ∷ lines) (written ++ t)) (sym output) told;
       counted = let before = played.counted in omega arith;
       good = (is_line, played.good);
     }
 
 -- a line that spells a step was played
-pub plays_line : ScriptsAreSound → (old mid new : Runner) (line : List ℕ) (lines : List (List ℕ)) (written : List ℕ) (step : Step)
-    → IsLine line → Spells line step → PlaysStep step old mid
+pub plays_line : (old mid new : Runner) (line : List ℕ) (lines : List (List ℕ)) (written : List ℕ) (step : Step)
+    → IsLine line → Spells shards line step → PlaysStep step old mid
     → new.player ≡ mid.player → new.output.items ≡ mid.output.items → new.lines ≡ old.lines + 1
     → HasPlayed old lines written → HasPlayed new (line ∷ lines) written
-plays_line sound old mid new line lines written step is_line spells plays player output counts played =
+plays_line old mid new line lines written step is_line spells plays player output counts played =
     let added = text_of_outcome plays.outcome in
     let text = written ++ old.output.items in
-    let stands = stands_after sound old.player mid.player line lines text step plays.outcome spells plays.played played.stands in
+    let represents = represents_after old.player mid.player line lines text step plays.outcome spells plays.played played.represents in
     let same : text ++ added ≡ written ++ new.output.items =
     append_assoc written old.output.items added ∙ ap (λ t. written ++ t) (sym plays.output ∙ sym output) in
-    let told : Stands mid.player (line ∷ lines) (written ++ new.output.items) = subst (λ t. Stands mid.player (line ∷ lines) t) same stands in
+    let told : Represents mid.player (line ∷ lines) (written ++ new.output.items) = subst (λ t. Represents mid.player (line ∷ lines) t) same represents in
     record {
-      stands = subst (λ p. Stands p (line ∷ lines) (written ++ new.output.items)) (sym player) told;
+      represents = subst (λ p. Represents p (line ∷ lines) (written ++ new.output.items)) (sym player) told;
       counted = let before = played.counted in omega arith;
       good = (is_line, played.good);
     }
@@ -73,7 +81,7 @@ pub stopped_in : (stop : Stop) (old new : Runner) (lines : List (List ℕ)) (wri
 stopped_in stop old new lines written bytes used left on output counts why = record {
   after = on.after;
   rest = drop used bytes;
-  text = subst (λ t. HasText shards on.after (written ++ t)) (sym output) on.played.stands.told;
+  text = subst (λ t. HasText shards on.after (written ++ t)) (sym output) on.played.represents.told;
   counted = counts ∙ on.played.counted;
   good = on.played.good;
   spelled = ap (λ t. bytes_of lines ++ t) (sym (take-append-drop used bytes))
@@ -98,7 +106,7 @@ why_in BadLine bytes n left below feed no_feed bad =
 why_in NoMemory bytes n left below feed no_feed bad = tt
 
 -- a line is too long before its feed is seen
-pub why_too_long : (rest : List ℕ) (left : Option (List ℕ)) → HasNoFeed rest → longest_line < length rest → IsWhy BadLine rest left
+pub why_too_long : (rest : List ℕ) (left : Option (List ℕ)) → HasNoFeed rest → max_line_bytes < length rest → IsWhy BadLine rest left
 why_too_long rest left no_feed long = inl (record { front = rest; more = []; begins = sym (append-nil rest); no_feed = no_feed; long = long })
 
 -- why the last line of the input isn't played
@@ -123,7 +131,7 @@ pub stopped_at_end : (stop : Stop) (old new : Runner) (lines : List (List ℕ)) 
 stopped_at_end stop old new lines written rest left played output counts why = record {
   after = lines;
   rest = rest;
-  text = subst (λ t. HasText shards lines (written ++ t)) (sym output) played.stands.told;
+  text = subst (λ t. HasText shards lines (written ++ t)) (sym output) played.represents.told;
   counted = counts ∙ played.counted;
   good = played.good;
   spelled = refl;

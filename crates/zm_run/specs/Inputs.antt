@@ -4,13 +4,17 @@ use Rattle.std.specs.List.{list_any}
 use Rattle.ev_ports.specs.Ports.{IsSpent}
 use Rattle.zs_script.specs.Grammar.{IsNoStep}
 
+-- a script is run over one shard
+abbrev pub shards : ℕ
+shards = 1
+
 -- no line has more bytes than these, its line feed not counted
-abbrev pub longest_line : ℕ
-longest_line = 65536
+abbrev pub max_line_bytes : ℕ
+max_line_bytes = 65536
 
 -- no more bytes are read than these
-abbrev pub all_input : ℕ
-all_input = 1073741824
+abbrev pub max_input_bytes : ℕ
+max_input_bytes = 1073741824
 
 -- no byte is a line feed
 abbrev pub HasNoFeed : List ℕ → Type 0
@@ -19,7 +23,7 @@ HasNoFeed bytes = list_any (λ byte. byte == 10) bytes ≡ false
 -- a line that isn't too long
 pub record IsLine (line : List ℕ) : Type 0 where
   pub no_feed : HasNoFeed line
-  pub short : length line ≤ longest_line
+  pub short : length line ≤ max_line_bytes
 
 abbrev pub AreLines : List (List ℕ) → Type 0
 AreLines [] = Unit {0}
@@ -49,14 +53,14 @@ pub record BeginsTooLong (bytes : List ℕ) : Type 0 where
   pub more : List ℕ
   pub begins : bytes ≡ front ++ more
   pub no_feed : HasNoFeed front
-  pub long : longest_line < length front
+  pub long : max_line_bytes < length front
 
 -- a line that is no step begins here: it ends at a line feed, or at the end of the input
 pub record BeginsNoStep (bytes : List ℕ) (left : Option (List ℕ)) : Type 0 where
   pub line : List ℕ
   pub more : List ℕ
   pub is_line : IsLine line
-  pub no_step : IsNoStep line
+  pub no_step : IsNoStep shards line
   pub begins : (bytes ≡ line ++ 10 ∷ more) ⊎ ((bytes ≡ line) × IsSpent left)
 
 -- the bytes begin with these good lines, the latest first, and then comes a bad one

@@ -1,5 +1,6 @@
 pub mod Inputs
-pub mod Ends
+pub mod RunEnds
+pub mod GoodScripts
 pub mod Running
 pub mod Numbers
 pub mod Stops

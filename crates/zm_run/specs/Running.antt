@@ -3,14 +3,14 @@ use Rattle.std.specs.Prelude.{◌≡◌, ℕ, ◌+◌, ◌<◌, ◌≤◌, ◌�
 use Rattle.ev_ports.specs.Ports.{Loses, Gains, IsSpent}
 use Rattle.ev_ports.specs.declared.reading.Took.{Took}
 use Rattle.ev_ports.specs.declared.reading.Took.TheVariants.{Bytes, End, Failed}
-use Rattle.zw_lines.specs.Histories.{History, IsLegalHistory, IsFedHistory}
-use Rattle.zw_world.specs.Worlds.{WorldState, WorldStands}
+use Rattle.zw_traces.specs.Histories.{History, IsLegalHistory, IsFedHistory}
+use Rattle.zw_world.specs.Worlds.{WorldState, WorldRepresents}
 use Rattle.zs_script.specs.declared.step.Step.{Step}
 use Rattle.zs_script.specs.Grammar.{IsNoStep}
 use Rattle.zm_text.specs.declared.outcome.Outcome.{Outcome}
 use Rattle.zm_text.specs.Outcomes.{text_of_outcome}
 use Rattle.zm_text.specs.Playing.{Turn, IsPlayed}
-use Rattle.zm_text.specs.Headline.{Promises}
+use Rattle.zm_text.specs.Promises.{Promises}
 use Rattle.zm_text.specs.Texts.{HasText}
 use Rattle.zm_play.specs.Played.{Played}
 use Rattle.zm_run.specs.declared.input.Input.{Input}
@@ -19,8 +19,7 @@ use Rattle.zm_run.specs.declared.runner.Stop.{Stop}
 use Rattle.zm_run.specs.declared.runner.Stop.TheVariants.{BadLine, NoMemory}
 use Rattle.zm_run.specs.declared.status.Status.{Status}
 use Rattle.zm_run.specs.declared.status.Status.TheVariants as status
-use Rattle.zm_run.specs.Inputs.{AreLines, BeginsNoStep, BeginsTooLong, bytes_of, longest_line, SplitsWhole}
-use Rattle.zm_run.specs.Ends.{shards}
+use Rattle.zm_run.specs.Inputs.{AreLines, BeginsNoStep, BeginsTooLong, bytes_of, max_line_bytes, shards, SplitsWhole}
 
 -- the promises hold of whatever is played in a history that is legal by each core's own steps, and the history is legal
 abbrev pub ScriptsAreSound : Type 0
@@ -58,15 +57,15 @@ pub record PlaysStep (step : Step) (old new : Runner) : Type 0 where
   pub played : Played old.player new.player step outcome
   pub output : new.output.items ≡ old.output.items ++ text_of_outcome outcome
 
--- a player stands for lines, the latest first, and their text
-pub record Stands (player : WorldState) (lines : List (List ℕ)) (text : List ℕ) : Type 0 where
+-- a player represents lines, the latest first, and their text
+pub record Represents (player : WorldState) (lines : List (List ℕ)) (text : List ℕ) : Type 0 where
   pub told : HasText shards lines text
   pub fed : IsFedHistory told.history
-  pub world : WorldStands player told.history
+  pub world : WorldRepresents player told.history
 
 -- a runner played these lines, the latest first, and this is written of their text: its output is the rest
 pub record HasPlayed (runner : Runner) (lines : List (List ℕ)) (written : List ℕ) : Type 0 where
-  pub stands : Stands runner.player lines (written ++ runner.output.items)
+  pub represents : Represents runner.player lines (written ++ runner.output.items)
   pub counted : runner.lines ≡ length lines
   pub good : AreLines lines
 
@@ -99,7 +98,7 @@ pub record StoppedIn (stop : Stop) (runner : Runner) (lines : List (List ℕ)) (
 
 -- a line isn't played since it is too long or no step
 abbrev pub IsBad : List ℕ → Type 0
-IsBad line = (longest_line < length line) ⊎ ((length line ≤ longest_line) × IsNoStep line)
+IsBad line = (max_line_bytes < length line) ⊎ ((length line ≤ max_line_bytes) × IsNoStep shards line)
 
 -- a run on its way: all that was played is written
 pub record Running (left left' held held' : Option (List ℕ)) (runner : Runner) (input : Input) : Type 0 where

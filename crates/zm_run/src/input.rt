@@ -7,10 +7,10 @@ use ev_ports::{Source, Took};
 use std::alloc::Global;
 
 /// No line has more bytes than these, its line feed not counted.
-pub const LONGEST_LINE: usize = 65_536;
+pub const MAX_LINE_BYTES: usize = 65_536;
 
 /// No more bytes are read than these.
-pub const ALL_INPUT: u64 = 1_073_741_824;
+pub const MAX_INPUT_BYTES: u64 = 1_073_741_824;
 
 /// Room for the beginning of a line, and a piece behind it.
 const ROOM: usize = 131_072;
@@ -44,13 +44,13 @@ impl Input {
 
     /// Reads a piece behind what is pending.
     pub fn fill<S: Source>(&mut self, source: &mut S) -> Took
-        requires room { length (pending_of self.old) ≤ LONGEST_LINE }
-        requires more { self.old.read < ALL_INPUT }
+        requires room { length (pending_of self.old) ≤ MAX_LINE_BYTES }
+        requires more { self.old.read < MAX_INPUT_BYTES }
         ensures filled { Fills result (S.left source.old) (S.left source.new) self.old self.new }
         ensures count { S.faults source.old ≤ S.faults source.new }
         ensures cause { result ≡ Took.Failed → Rose (S.faults source.old) (S.faults source.new) }
     {
-        let most = (ALL_INPUT - self.read).min((ROOM - self.held) as u64) as usize;
+        let most = (MAX_INPUT_BYTES - self.read).min((ROOM - self.held) as u64) as usize;
         let took = source.read(&mut self.buffer[self.held..self.held + most]);
         if let Took::Bytes(count) = took {
             self.held += count;

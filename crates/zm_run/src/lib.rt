@@ -2,7 +2,6 @@
 #![tactic(auto)]
 
 mod input;
-mod laws;
 mod replay;
 mod runner;
 mod status;

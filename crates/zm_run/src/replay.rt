@@ -2,11 +2,11 @@
 
 ghost use Rattle.std.specs.Prelude.{◌≡◌, ◌≢◌, ◌↔◌, [], ◌∷◌, IsTrue, codes, map, string_bytes};
 ghost use Rattle.ev_ports.specs.Ports.{Rose};
-ghost use Rattle.zm_run.specs.Ends.{Replays};
+ghost use Rattle.zm_run.specs.GoodScripts.{IsComplete};
+ghost use Rattle.zm_run.specs.RunEnds.{Replays};
 ghost use Rattle.zm_run.specs.Running.{IsCaused};
 
-use crate::input::{ALL_INPUT, Input};
-use crate::laws::scripts_are_sound;
+use crate::input::{Input, MAX_INPUT_BYTES};
 use crate::runner::Runner;
 use crate::status::Status;
 use ev_ports::{Sink, Source, Took};
@@ -17,10 +17,12 @@ use std::alloc::Global;
 ///
 /// `replays` says of every run what was read and what was written, also where it ends early: the
 /// lines that were played have one text, their histories are `legal`, and of what was printed the
-/// promises hold. A register reply is its user's view at the commit that it reached (`fresh`), and
-/// that commit isn't before those of its line's start (`recent`). A client that takes in each event
-/// once, in order of id, has the view at the commit that each answer reached (`followed`). An id
-/// that was answered shows the same event each time (`steady`).
+/// promises hold. A register reply isn't before the commits at its line's start (`recent`), and each
+/// section that was asked for and that the types cover is that of its user's view at the commit that
+/// it reached (`fresh`). So is such a section of a client that takes or loses each answer, at each
+/// that it takes (`followed`). The user is active then (`active`). A view is the view (`viewed`), and
+/// an id that was answered shows the same event each time (`steady`). `complete` says that a good
+/// script is run to its end where no read and no write fails and memory is enough.
 pub fn run<S: Source, K: Sink>(
     alloc: Global,
     words: &[String],
@@ -33,6 +35,9 @@ pub fn run<S: Source, K: Sink>(
     ensures usage { (result ≡ Status.Usage) ↔ (map string_bytes words.now ≢ codes "replay" ∷ []) }
     ensures read_fault { result ≡ Status.ReadFault → Rose (S.faults source.old) (S.faults source.new) }
     ensures write_fault { result ≡ Status.WriteFault → Rose (K.faults sink.old) (K.faults sink.new) }
+    ensures complete { map string_bytes words.now ≡ codes "replay" ∷ []
+        → IsComplete result (S.left source.old) (Rose (S.faults source.old) (S.faults source.new))
+        (Rose (K.faults sink.old) (K.faults sink.new)) }
 {
     if !are_the_word(words, "replay") {
         return Status::Usage;
@@ -57,14 +62,13 @@ fn replay<S: Source, K: Sink>(alloc: Global, source: &mut S, sink: &mut K) -> St
     ensures caused { IsCaused result (Rose (S.faults source.old) (S.faults source.new))
         (Rose (K.faults sink.old) (K.faults sink.new)) }
 {
-    scripts_are_sound();
     let Ok(mut runner) = Runner::new(alloc) else {
         return Status::NoMemory;
     };
     let Ok(mut input) = Input::new(alloc) else {
         return Status::NoMemory;
     };
-    while input.read < ALL_INPUT {
+    while input.read < MAX_INPUT_BYTES {
         match input.fill(source) {
             Took::Bytes(_) => {
                 if let Err(status) = runner.play_piece(alloc, &mut input, sink) {

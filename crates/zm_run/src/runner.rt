@@ -2,14 +2,16 @@
 
 ghost use Rattle.std.specs.Prelude.{◌≡◌, ◌==◌, length, position};
 
-use crate::input::{Input, LONGEST_LINE};
-use crate::laws::scripts_are_sound;
+use crate::input::{Input, MAX_LINE_BYTES};
 use crate::status::Status;
 use ev_base::NoMemory;
 use ev_ports::{Sink, Written, write_all};
 use std::alloc::Global;
 use zm_play::Player;
 use zs_script::{LineFault, Step, read_line};
+
+/// A script is run over one shard.
+const SHARDS: u32 = 1;
 
 /// Why a line isn't played.
 #[derive(Clone, Copy, Debug, PartialEq, Eq)]
@@ -54,8 +56,8 @@ pub struct Runner {
 impl Runner {
     ghost use Rattle.std.specs.Prelude.{◌⊎◌, ◌<◌, ◌≤◌, ◌+◌, ℕ, List, Option, [], ◌∷◌, Err, IfErr, IfOk, MatchResult, OnErr, OnOk, drop, take, ◌-◌, ◌^◌};
     ghost use Rattle.ev_ports.specs.Ports.{IsSpent, PutsAll, Rose};
-    ghost use Rattle.zm_run.specs.Inputs.{HasNoFeed, longest_line};
-    ghost use Rattle.zm_run.specs.Ends.{Replays};
+    ghost use Rattle.zm_run.specs.Inputs.{HasNoFeed, max_line_bytes};
+    ghost use Rattle.zm_run.specs.RunEnds.{Replays};
     ghost use Rattle.zm_run.specs.Running.{HasPlayed, IsBad, IsCaused, PlayedOn, PlayedToEnd, PlaysStep, Running, StoppedIn, pending_of};
     ghost use Rattle.zm_run.specs.Stops.{status_of};
     ghost use Rattle.zm_play.specs.Played.{NamesAShard};
@@ -64,7 +66,6 @@ impl Runner {
     pub fn new(alloc: Global) -> Result<Runner, NoMemory>
         ensures { IfOk result (λ runner. HasPlayed runner [] [] × (runner.output.items ≡ [])) }
     {
-        scripts_are_sound();
         Ok(Runner {
             player: Player::new(alloc)?,
             lines: 0,
@@ -85,7 +86,7 @@ impl Runner {
             → MatchResult result (λ _. Running left left' held (K.held sink.new) self.new input.new)
             (λ status. Replays status left left' held (K.held sink.new)) }
         ensures rest { OnOk result (HasNoFeed (pending_of input.new)) }
-        ensures short { OnOk result (length (pending_of input.new) ≤ longest_line) }
+        ensures short { OnOk result (length (pending_of input.new) ≤ max_line_bytes) }
         ensures read { input.new.read ≡ input.old.read }
         ensures caused { IfErr result
             (λ status. IsCaused status ⊥ (Rose (K.faults sink.old) (K.faults sink.new))) }
@@ -128,7 +129,7 @@ impl Runner {
         requires few { self.old.lines + length bytes.now < 2 ^ 63 }
         ensures within { IfOk result (λ used. used ≤ length bytes.now) }
         ensures rest { IfOk result (λ used. HasNoFeed (drop used bytes.now)) }
-        ensures short { IfOk result (λ used. length (drop used bytes.now) ≤ longest_line) }
+        ensures short { IfOk result (λ used. length (drop used bytes.now) ≤ max_line_bytes) }
         ensures played { (left : Option (List ℕ)) (lines : List (List ℕ)) (written : List ℕ)
             → HasPlayed self.old lines written
             → MatchResult result (λ used. PlayedOn self.new lines written (take used bytes.now))
@@ -141,7 +142,7 @@ impl Runner {
             self.play_line(alloc, &bytes[used..end])?;
             used = end + 1;
         }
-        if bytes.len() - used > LONGEST_LINE {
+        if bytes.len() - used > MAX_LINE_BYTES {
             return Err(Stop::BadLine);
         }
         Ok(used)
@@ -173,11 +174,10 @@ impl Runner {
         ensures stopped { OnErr result (self.new.lines ≡ self.old.lines) }
         ensures output { OnErr result (self.new.output.items ≡ self.old.output.items) }
     {
-        scripts_are_sound();
-        if line.len() > LONGEST_LINE {
+        if line.len() > MAX_LINE_BYTES {
             return Err(Stop::BadLine);
         }
-        if let Some(step) = read_line(alloc, line)? {
+        if let Some(step) = read_line(alloc, SHARDS, line)? {
             self.play_step(alloc, step)?;
         }
         self.lines += 1;

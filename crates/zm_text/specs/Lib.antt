@@ -1,4 +1,5 @@
 pub mod Outcomes
 pub mod Playing
-pub mod Headline
+pub mod Clients
+pub mod Promises
 pub mod Texts

@@ -1,11 +1,12 @@
 -- The line of output that tells an outcome.
 use Rattle.std.specs.Prelude.{ℕ, Option, None, Some, List, [], ◌∷◌, ◌++◌, codes, decimal}
 use Rattle.std.specs.Fmt.{signed_decimal}
-use Rattle.zw_lines.specs.declared.people.Refusal.{Refusal}
-use Rattle.zw_lines.specs.declared.people.Refusal.TheVariants.{ActorUnknown, NoSuchUser, AlreadySo, LogFull}
-use Rattle.ev_wire.specs.Bodies.{register_text, events_text}
+use Rattle.ev_types.specs.Sections.{sections_of}
+use Rattle.ev_wire.specs.Bodies.{register_text, events_text, state_text}
+use Rattle.zr_types.specs.declared.command.Refusal.{Refusal}
+use Rattle.zr_types.specs.declared.command.Refusal.TheVariants as refusal
 use Rattle.zm_text.specs.declared.outcome.Outcome.{Outcome}
-use Rattle.zm_text.specs.declared.outcome.Outcome.TheVariants.{Committed, Refused, Noticed, Pushed, Finished, OpensSpent, TooManyQueues, FetchRefused, Answered, Empty, BadQueue, NotSent, Pruned}
+use Rattle.zm_text.specs.declared.outcome.Outcome.TheVariants.{Committed, Refused, Noticed, Pushed, Finished, OpensSpent, TooManyQueues, FetchRefused, Answered, Empty, BadQueue, NotSent, Pruned, Viewed}
 
 -- a word and the next, with a space between
 abbrev pub and_then : List ℕ → List ℕ → List ℕ
@@ -13,10 +14,17 @@ and_then first next = first ++ 32 ∷ next
 
 -- a refusal by its place in the order of refusals, and its name
 abbrev pub refusal_text : Refusal → List ℕ
-refusal_text ActorUnknown = codes "refused 1 ActorUnknown"
-refusal_text NoSuchUser = codes "refused 3 NoSuchUser"
-refusal_text AlreadySo = codes "refused 7 AlreadySo"
-refusal_text LogFull = codes "refused 11 LogFull"
+refusal_text refusal.ActorUnknown = codes "refused 1 ActorUnknown"
+refusal_text refusal.NotPermitted = codes "refused 2 NotPermitted"
+refusal_text refusal.NoSuchUser = codes "refused 3 NoSuchUser"
+refusal_text refusal.NoSuchStream = codes "refused 4 NoSuchStream"
+refusal_text refusal.NoSuchMessage = codes "refused 5 NoSuchMessage"
+refusal_text refusal.NameTaken = codes "refused 6 NameTaken"
+refusal_text refusal.AlreadySo = codes "refused 7 AlreadySo"
+refusal_text refusal.NotSo = codes "refused 8 NotSo"
+refusal_text refusal.BadText = codes "refused 9 BadText"
+refusal_text refusal.LimitReached = codes "refused 10 LimitReached"
+refusal_text refusal.LogFull = codes "refused 11 LogFull"
 
 -- a word, the position that was reached, and a body
 abbrev pub with_body : List ℕ → ℕ → List ℕ → List ℕ
@@ -33,8 +41,8 @@ line_of (Committed number id) = committed_text number id
 line_of (Refused why) = refusal_text why
 line_of (Noticed count) = and_then (codes "noticed") (decimal count)
 line_of (Pushed position) = and_then (codes "pushed") (decimal position)
-line_of (Finished reached queue last_event_id rows) =
-    with_body (codes "finished") reached (register_text queue last_event_id rows)
+line_of (Finished reached queue last_event_id state) =
+    with_body (codes "finished") reached (register_text queue last_event_id (sections_of state))
 line_of OpensSpent = codes "opens_spent"
 line_of TooManyQueues = codes "too_many 32"
 line_of FetchRefused = codes "fetch_refused"
@@ -43,6 +51,7 @@ line_of (Empty reached) = and_then (codes "empty") (decimal reached)
 line_of BadQueue = codes "bad_queue"
 line_of (NotSent greatest) = and_then (codes "not_sent") (signed_decimal greatest)
 line_of (Pruned newest) = and_then (codes "pruned") (signed_decimal newest)
+line_of (Viewed commits state) = with_body (codes "view") commits (state_text (sections_of state))
 
 -- the line of output, with its line feed
 abbrev pub text_of_outcome : Outcome → List ℕ

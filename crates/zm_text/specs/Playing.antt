@@ -1,23 +1,37 @@
 -- What the lines of a script ask of a realm and its shards, and what is printed for them.
-use Rattle.std.specs.Prelude.{◌≡◌, ℕ, ◌+◌, ◌≤◌, ◌<◌, List, [], ◌∷◌, length, ◌⊎◌, ℤ}
+use Rattle.std.specs.Prelude.{◌≡◌, ℕ, ◌+◌, ◌≤◌, ◌<◌, max, Some, List, [], ◌∷◌, ◌++◌, length, map, fold, ◌⊎◌}
 use Rattle.ev_base.specs.declared.ids.UserId.{UserId}
 use Rattle.ev_base.specs.declared.ids.QueueId.{QueueId}
-use Rattle.zw_lines.specs.declared.people.Notice.{Notice}
-use Rattle.zw_lines.specs.declared.realm.RealmInput.TheVariants as realm
-use Rattle.zw_lines.specs.declared.realm.RealmReply.TheVariants as realm_reply
-use Rattle.zw_lines.specs.declared.shard.Part.{Part}
-use Rattle.zw_lines.specs.declared.shard.ShardInput.{ShardInput}
-use Rattle.zw_lines.specs.declared.shard.ShardInput.TheVariants as shard
-use Rattle.zw_lines.specs.declared.shard.ShardReply.{ShardReply}
-use Rattle.zw_lines.specs.declared.shard.ShardReply.TheVariants as shard_reply
-use Rattle.zw_lines.specs.Views.{Rows}
-use Rattle.zw_lines.specs.RealmLine.{announced}
-use Rattle.zw_lines.specs.Histories.{History, opening_history, shard_of, with_realm_step, with_shard_step}
+use Rattle.ev_types.specs.declared.notice.Notice.{Notice}
+use Rattle.ev_types.specs.declared.kind.Types.{Types}
+use Rattle.ev_types.specs.declared.section.Section.{Section}
+use Rattle.ev_types.specs.Sections.{SomeSections, sections_of}
+use Rattle.ev_types.specs.OneSection.{rows_of}
+use Rattle.zr_types.specs.declared.command.Command.{Command as Change}
+use Rattle.zr_types.specs.declared.command.Committed.{Committed as CommitReply}
+use Rattle.zw_traces.specs.declared.realm.RealmInput.TheVariants as realm
+use Rattle.zw_traces.specs.declared.realm.RealmReply.TheVariants as realm_reply
+use Rattle.zw_traces.specs.declared.shard.FetchedSection.{FetchedSection}
+use Rattle.zw_traces.specs.declared.shard.ShardInput.{ShardInput}
+use Rattle.zw_traces.specs.declared.shard.ShardInput.TheVariants as shard
+use Rattle.zw_traces.specs.declared.shard.ShardReply.{ShardReply}
+use Rattle.zw_traces.specs.declared.shard.ShardReply.TheVariants as shard_reply
+use Rattle.zw_traces.specs.FetchedSections.{all_sections, needed}
+use Rattle.zw_traces.specs.RealmTrace.{announced_count, commits}
+use Rattle.zw_traces.specs.Histories.{History, opening_history, shard_of, with_realm_step, with_shard_step}
 use Rattle.zs_script.specs.declared.step.Step.{Step}
-use Rattle.zs_script.specs.declared.step.Step.TheVariants.{Command, NoticeAll, Push, Register, Poll}
+use Rattle.zs_script.specs.declared.step.Step.TheVariants.{Command, NoticeAll, Push, Register, Poll, View}
 use Rattle.zs_script.specs.Grammar.{IsPassedOver, Spells}
 use Rattle.zm_text.specs.declared.outcome.Outcome.{Outcome}
-use Rattle.zm_text.specs.declared.outcome.Outcome.TheVariants.{Committed, Refused, Noticed, Pushed, Finished, OpensSpent, TooManyQueues, FetchRefused, Answered, Empty, BadQueue, NotSent, Pruned}
+use Rattle.zm_text.specs.declared.outcome.Outcome.TheVariants.{Committed, Refused, Noticed, Pushed, Finished, OpensSpent, TooManyQueues, FetchRefused, Answered, Empty, BadQueue, NotSent, Pruned, Viewed}
+
+-- the moment at which all is asked: these lines let no time pass
+abbrev pub moment : ℕ
+moment = 0
+
+-- the salt of the queues of a script
+abbrev pub salt : ℕ
+salt = 0
 
 -- notices that were taken and pushed, and the shard's position then
 pub record Round : Type 0 where
@@ -49,57 +63,107 @@ serving user history = shard_of (length history.shards) user
 abbrev pub with_step_for : UserId → ShardInput → ShardReply → History → History
 with_step_for user input reply history = with_shard_step (serving user history) input reply history
 
+-- the realm was asked for these sections by the user, one after the other, and answered them
+abbrev pub with_fetch : UserId → History → FetchedSection → History
+with_fetch user history part = with_realm_step (realm.Fetch user part.section) (realm_reply.Section part.rows part.at) history
+
+abbrev pub with_fetches : UserId → List FetchedSection → History → History
+with_fetches user parts history = fold (with_fetch user) history parts
+
+-- which sections these are
+abbrev pub sections : List FetchedSection → List Section
+sections parts = map (λ (part : FetchedSection). part.section) parts
+
+-- the user asks for sections in this order, and one of them is refused
+pub record PlaysRefusedFetch (user : UserId) (asked : List Section) (before after : History) : Type 0 where
+  pub parts : List FetchedSection
+  pub which : Section
+  pub others : List Section
+  pub in_order : asked ≡ sections parts ++ which ∷ others
+  pub refused : after ≡ with_realm_step (realm.Fetch user which) realm_reply.FetchRefused (with_fetches user parts before)
+
+-- a command at its moment: what is printed of its reply
+abbrev pub PlaysCommit : UserId → Change → CommitReply → History → History → Type 0
+PlaysCommit actor command reply before after = after ≡ with_realm_step (realm.Commit actor moment command) (realm_reply.Committed reply) before
+
 -- a push: where the shard stands, and then takes and pushes up to the announced count
 pub record PlaysPush (index : ℕ) (reached : ℕ) (before after : History) : Type 0 where
   pub have : ℕ
   pub rounds : List Round
-  pub pushed : TakesAndPushes index (announced before.realm) have rounds
+  pub pushed : TakesAndPushes index (announced_count before.realm) have rounds
       (with_shard_step index shard.Locate (shard_reply.At have) before) reached after
 
--- the flow of a registration: open, fetch, catch up to the fetch, finish
-pub record PlaysRegister (user : UserId) (queue : QueueId) (last : ℤ) (rows : Rows) (reached : ℕ) (before after : History) : Type 0 where
+-- the user's queue is opened
+abbrev pub with_opening : UserId → Types → List Section → QueueId → ℕ → History → History
+with_opening user types asked queue have before = with_step_for user (shard.Start user salt moment types asked) (shard_reply.Opened queue have) before
+
+-- the flow of a registration: open, fetch each section that is asked for, catch up to the latest fetch and to the commits at
+-- the start, finish; and this is the reply to the finish
+pub record PlaysRegister (user : UserId) (types : Types) (asked : List Section) (queue : QueueId) (reply : ShardReply) (before after : History) : Type 0 where
   pub have : ℕ
-  pub part : Part
+  pub parts : List FetchedSection
   pub position : ℕ
   pub caught : History
-  pub catches_up : CatchesUp (serving user before) part.at have
-      (with_realm_step (realm.Fetch user) (realm_reply.Section part.rows part.at)
-      (with_step_for user (shard.Start user) (shard_reply.Opened queue have) before))
-      position caught
-  pub finishes : after ≡ with_step_for user (shard.Finish queue part) (shard_reply.Finished rows last reached) caught
+  pub in_order : sections parts ≡ asked
+  pub catches_up : CatchesUp (serving user before) (max (needed asked parts) (commits before.realm)) have
+      (with_fetches user parts (with_opening user types asked queue have before)) position caught
+  pub finishes : after ≡ with_step_for user (shard.Finish queue parts) reply caught
 
--- a registration whose fetch is refused: the queue is deleted
-pub record PlaysRefusedFetch (user : UserId) (before after : History) : Type 0 where
+-- a registration of which a fetch is refused: the queue is deleted
+pub record PlaysRefusedRegister (user : UserId) (types : Types) (asked : List Section) (before after : History) : Type 0 where
   pub queue : QueueId
   pub have : ℕ
-  pub deletes : after ≡ with_step_for user (shard.Delete user queue) shard_reply.Deleted
-      (with_realm_step (realm.Fetch user) realm_reply.FetchRefused
-      (with_step_for user (shard.Start user) (shard_reply.Opened queue have) before))
+  pub given_up : History
+  pub fetches : PlaysRefusedFetch user asked (with_opening user types asked queue have before) given_up
+  pub deletes : after ≡ with_step_for user (shard.Delete user queue) shard_reply.Deleted given_up
+
+-- each of these parts was fetched at this commit, and is that section of the state
+abbrev pub AreShown : ℕ → SomeSections → List FetchedSection → Type 0
+AreShown at state [] = Unit {0}
+AreShown at state (part ∷ others) = (part.at ≡ at) × (rows_of part.section state ≡ Some part.rows) × AreShown at state others
+
+-- all sections are fetched, and shown as one state
+pub record PlaysView (user : UserId) (at : ℕ) (state : SomeSections) (before after : History) : Type 0 where
+  pub parts : List FetchedSection
+  pub in_order : sections parts ≡ all_sections
+  pub shown : AreShown at state parts
+  pub fetches : after ≡ with_fetches user parts before
+
+-- one step of the shard that serves the user, with this reply
+abbrev pub PlaysStart : UserId → Types → List Section → ShardReply → History → History → Type 0
+PlaysStart user types asked reply before after = after ≡ with_step_for user (shard.Start user salt moment types asked) reply before
+
+abbrev pub PlaysPoll : UserId → ShardInput → ShardReply → History → History → Type 0
+PlaysPoll user input reply before after = after ≡ with_step_for user input reply before
 
 -- a step that is asked after a history, what is printed for it, and the history after it
 abbrev pub Plays : Step → Outcome → History → History → Type 0
 Plays (Command actor command) (Committed number id) before after =
-    after ≡ with_realm_step (realm.Commit actor command) (realm_reply.Committed number id) before
+    (reply : CommitReply) × (reply.number ≡ number) × (reply.id ≡ id) × PlaysCommit actor command reply before after
 Plays (Command actor command) (Refused why) before after =
-    after ≡ with_realm_step (realm.Commit actor command) (realm_reply.Refused why) before
+    after ≡ with_realm_step (realm.Commit actor moment command) (realm_reply.Refused why) before
 Plays NoticeAll (Noticed count) before after =
     after ≡ with_realm_step realm.NoticeAll (realm_reply.Noticed count) before
 Plays (Push index) (Pushed reached) before after = PlaysPush index reached before after
-Plays (Register user) (Finished reached queue last_event_id rows) before after =
-    PlaysRegister user queue last_event_id rows reached before after
-Plays (Register user) OpensSpent before after = after ≡ with_step_for user (shard.Start user) shard_reply.OpensSpent before
-Plays (Register user) TooManyQueues before after = after ≡ with_step_for user (shard.Start user) shard_reply.TooManyQueues before
-Plays (Register user) FetchRefused before after = PlaysRefusedFetch user before after
-Plays (Poll user queue asked) (Answered reached other items) before after =
-    (other ≡ queue) × (after ≡ with_step_for user (shard.Poll user queue asked) (shard_reply.Answer items reached) before)
-Plays (Poll user queue asked) (Empty reached) before after =
-    after ≡ with_step_for user (shard.Poll user queue asked) (shard_reply.Empty reached) before
-Plays (Poll user queue asked) BadQueue before after =
-    after ≡ with_step_for user (shard.Poll user queue asked) shard_reply.BadQueue before
-Plays (Poll user queue asked) (NotSent greatest) before after =
-    after ≡ with_step_for user (shard.Poll user queue asked) (shard_reply.NotSent greatest) before
-Plays (Poll user queue asked) (Pruned newest) before after =
-    after ≡ with_step_for user (shard.Poll user queue asked) (shard_reply.Pruned newest) before
+Plays (Register user types asked) (Finished reached queue last state) before after =
+    PlaysRegister user types asked queue (shard_reply.Finished state last reached) before after
+Plays (Register user types asked) BadQueue before after =
+    (queue : QueueId) × PlaysRegister user types asked queue shard_reply.BadQueue before after
+Plays (Register user types asked) OpensSpent before after = PlaysStart user types asked shard_reply.OpensSpent before after
+Plays (Register user types asked) TooManyQueues before after = PlaysStart user types asked shard_reply.TooManyQueues before after
+Plays (Register user types asked) FetchRefused before after = PlaysRefusedRegister user types asked before after
+Plays (Poll user queue asked beat) (Answered reached other items) before after =
+    (other ≡ queue) × PlaysPoll user (shard.Poll user queue asked moment beat) (shard_reply.Answer items reached) before after
+Plays (Poll user queue asked beat) (Empty reached) before after =
+    PlaysPoll user (shard.Poll user queue asked moment beat) (shard_reply.Empty reached) before after
+Plays (Poll user queue asked beat) BadQueue before after =
+    PlaysPoll user (shard.Poll user queue asked moment beat) shard_reply.BadQueue before after
+Plays (Poll user queue asked beat) (NotSent greatest) before after =
+    PlaysPoll user (shard.Poll user queue asked moment beat) (shard_reply.NotSent greatest) before after
+Plays (Poll user queue asked beat) (Pruned newest) before after =
+    PlaysPoll user (shard.Poll user queue asked moment beat) (shard_reply.Pruned newest) before after
+Plays (View user) (Viewed at state) before after = PlaysView user at (sections_of state) before after
+Plays (View user) FetchRefused before after = PlaysRefusedFetch user all_sections before after
 Plays step outcome before after = ⊥
 
 -- what a line asked, and what was printed for it
@@ -113,5 +177,5 @@ IsPlayed shards [] turns history = (turns ≡ []) × (history ≡ opening_histor
 IsPlayed shards (line ∷ lines) [] history = IsPassedOver line × IsPlayed shards lines [] history
 IsPlayed shards (line ∷ lines) (turn ∷ turns) history =
     (IsPassedOver line × IsPlayed shards lines (turn ∷ turns) history)
-    ⊎ (Spells line turn.step
+    ⊎ (Spells shards line turn.step
     × ((before : History) × Plays turn.step turn.outcome before history × IsPlayed shards lines turns before))

@@ -1,9 +1,9 @@
 -- The text of a script.
 use Rattle.std.specs.Prelude.{◌≡◌, ℕ, List, [], ◌∷◌, ◌++◌}
-use Rattle.zw_lines.specs.Histories.{History, IsLegalHistory}
+use Rattle.zw_traces.specs.Histories.{History, IsLegalHistory}
 use Rattle.zm_text.specs.Outcomes.{text_of_outcome}
 use Rattle.zm_text.specs.Playing.{Turn, IsPlayed}
-use Rattle.zm_text.specs.Headline.{Promises}
+use Rattle.zm_text.specs.Promises.{Promises}
 
 -- what is printed for the turns, the latest first
 abbrev pub text_of : List Turn → List ℕ

@@ -3,4 +3,4 @@
 
 mod outcome;
 
-pub use outcome::Outcome;
+pub use outcome::{MOMENT, Outcome, SALT};

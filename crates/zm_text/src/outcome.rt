@@ -3,11 +3,18 @@
 ghost use Rattle.std.specs.Prelude.{◌≡◌, ◌++◌, IfOk, IfSome, OnErr, OnOk};
 ghost use Rattle.zm_text.specs.Outcomes.{and_then, committed_text, line_of, refusal_text, text_of_outcome, with_body};
 
-use ev_base::{Listed, NoMemory, QueueId, RowList, UserId};
-use ev_wire::{write_events, write_register};
+use ev_base::{Listed, NoMemory, QueueId};
+use ev_types::{Item, State};
+use ev_wire::{write_events, write_register, write_state};
 use std::alloc::Global;
 use std::fmt::Display;
-use zw_lines::{Item, Person, Refusal};
+use zr_types::Refusal;
+
+/// The moment at which all is asked: the lines of a script let no time pass.
+pub const MOMENT: u64 = 0;
+
+/// The salt of the queues of a script.
+pub const SALT: u64 = 0;
 
 /// What a line of output tells of a step.
 #[derive(Debug, Drop)]
@@ -27,7 +34,7 @@ pub enum Outcome {
         reached: u64,
         queue: QueueId,
         last_event_id: i64,
-        rows: RowList<UserId, Person>,
+        state: State,
     },
     OpensSpent,
     TooManyQueues,
@@ -46,6 +53,11 @@ pub enum Outcome {
     },
     Pruned {
         newest: i64,
+    },
+    /// All sections of a user's view, after this many commits.
+    Viewed {
+        commits: u64,
+        state: State,
     },
 }
 
@@ -74,9 +86,9 @@ impl Outcome {
                 reached,
                 queue,
                 last_event_id,
-                rows,
+                state,
             } => {
-                let body = write_register(alloc, queue, *last_event_id, rows.rows())?;
+                let body = write_register(alloc, queue, *last_event_id, state)?;
                 body_line(alloc, "finished", *reached, &body)
             }
             Outcome::OpensSpent => text_line(alloc, "opens_spent"),
@@ -94,6 +106,10 @@ impl Outcome {
             Outcome::BadQueue => text_line(alloc, "bad_queue"),
             Outcome::NotSent { greatest } => word_line(alloc, "not_sent", greatest),
             Outcome::Pruned { newest } => word_line(alloc, "pruned", newest),
+            Outcome::Viewed { commits, state } => {
+                let body = write_state(alloc, state)?;
+                body_line(alloc, "view", *commits, &body)
+            }
         }
     }
 }
@@ -103,8 +119,15 @@ fn refusal_words(why: Refusal) -> &'static str
 {
     match why {
         Refusal::ActorUnknown => "refused 1 ActorUnknown",
+        Refusal::NotPermitted => "refused 2 NotPermitted",
         Refusal::NoSuchUser => "refused 3 NoSuchUser",
+        Refusal::NoSuchStream => "refused 4 NoSuchStream",
+        Refusal::NoSuchMessage => "refused 5 NoSuchMessage",
+        Refusal::NameTaken => "refused 6 NameTaken",
         Refusal::AlreadySo => "refused 7 AlreadySo",
+        Refusal::NotSo => "refused 8 NotSo",
+        Refusal::BadText => "refused 9 BadText",
+        Refusal::LimitReached => "refused 10 LimitReached",
         Refusal::LogFull => "refused 11 LogFull",
     }
 }

@@ -5,7 +5,7 @@ ghost use Rattle.std.specs.Fn.{CalledAt, ComputesKey};
 ghost use Rattle.std.specs.List.Retain.{IsFiltered};
 ghost use Rattle.std.specs.Map.{remove_entry};
 ghost use Rattle.std.specs.BTreeMap.{insert_entry, is_at};
-ghost use Rattle.ev_rows.specs.Rows.{RowsRise, is_outside, row_at};
+ghost use Rattle.ev_rows.specs.Rows.{SortedByKey, is_outside, row_at};
 ghost use Rattle.ev_base.specs.Orders.{reaction_cmp};
 
 use ev_base::{Keyed, MessageId, NoMemory, Text, UserId};
@@ -56,7 +56,7 @@ impl Marks {
     /// All reactions, rising by message, then by user, then by emoji.
     pub fn reactions_rows(&self) -> &[((MessageId, UserId, Text), ())]
         ensures all { result.now ≡ self.now.reactions.rows }
-        ensures rise { RowsRise reaction_cmp self.now.reactions.rows }
+        ensures rise { SortedByKey reaction_cmp self.now.reactions.rows }
     {
         self.reactions.rows()
     }

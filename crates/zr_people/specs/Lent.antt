@@ -4,10 +4,10 @@ use Rattle.std.specs.Borrow.{Fml, MutBor, Lends, LendsIf}
 use Rattle.ev_rows.specs.Lent.{with_value}
 use Rattle.ev_base.specs.Orders.{user_cmp}
 use Rattle.ev_base.specs.declared.ids.UserId.{UserId}
-use Rattle.zr_people.specs.declared.rows.RealmRow.{RealmRow}
-use Rattle.zr_people.specs.declared.rows.User.{User}
-use Rattle.zr_people.specs.contracts.rows.RealmRow.{the_row as realm_type}
-use Rattle.zr_people.specs.contracts.rows.User.{the_row as user_type}
+use Rattle.zr_types.specs.declared.people.RealmRow.{RealmRow}
+use Rattle.zr_types.specs.declared.people.User.{User}
+use Rattle.zr_types.specs.contracts.people.RealmRow.{the_row as realm_type}
+use Rattle.zr_types.specs.contracts.people.User.{the_row as user_type}
 use Rattle.zr_people.specs.contracts.table.Users.{the_row as table_type}
 use Rattle.zr_people.specs.Tables.{PeopleTables}
 

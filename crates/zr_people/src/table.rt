@@ -5,15 +5,15 @@ ghost use Rattle.std.specs.Option.{option_copied_mut};
 ghost use Rattle.std.specs.Borrow.{sem};
 ghost use Rattle.std.specs.Map.{remove_entry};
 ghost use Rattle.std.specs.BTreeMap.{insert_entry, is_at};
-ghost use Rattle.ev_rows.specs.Rows.{RowsRise, is_outside, row_at};
+ghost use Rattle.ev_rows.specs.Rows.{SortedByKey, is_outside, row_at};
 ghost use Rattle.ev_base.specs.Orders.{user_cmp};
 ghost use Rattle.zr_people.specs.Lent.{lends_realm, lends_user};
 
-use crate::rows::{RealmRow, User};
 use ev_base::{Keyed, NoMemory, UserId};
 use std::alloc::Global;
 use std::marker::Model;
 use std::mem;
+use zr_types::{RealmRow, User};
 
 /// The realm's row, and the users by their number.
 ///
@@ -92,7 +92,7 @@ impl Users {
     /// All users, rising by number.
     pub fn users_rows(&self) -> &[(UserId, User)]
         ensures all { result.now ≡ self.now.users.rows }
-        ensures rise { RowsRise user_cmp self.now.users.rows }
+        ensures rise { SortedByKey user_cmp self.now.users.rows }
     {
         self.users.rows()
     }

@@ -5,10 +5,10 @@ use Rattle.ev_rows.specs.Lent.{with_value}
 use Rattle.ev_base.specs.Orders.{message_cmp, user_message_cmp}
 use Rattle.ev_base.specs.declared.ids.MessageId.{MessageId}
 use Rattle.ev_base.specs.declared.ids.UserId.{UserId}
-use Rattle.zr_posts.specs.declared.rows.Message.{Message}
-use Rattle.zr_posts.specs.declared.rows.Receipt.{Receipt}
-use Rattle.zr_posts.specs.contracts.rows.Message.{the_row as message_type}
-use Rattle.zr_posts.specs.contracts.rows.Receipt.{the_row as receipt_type}
+use Rattle.zr_types.specs.declared.posts.Message.{Message}
+use Rattle.zr_types.specs.declared.posts.Receipt.{Receipt}
+use Rattle.zr_types.specs.contracts.posts.Message.{the_row as message_type}
+use Rattle.zr_types.specs.contracts.posts.Receipt.{the_row as receipt_type}
 use Rattle.zr_posts.specs.contracts.table.Posts.{the_row as table_type}
 use Rattle.zr_posts.specs.Tables.{PostTables}
 

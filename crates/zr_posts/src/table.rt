@@ -7,14 +7,14 @@ ghost use Rattle.std.specs.Fn.{CalledAt, ComputesKey};
 ghost use Rattle.std.specs.List.Retain.{IsFiltered};
 ghost use Rattle.std.specs.Map.{remove_entry};
 ghost use Rattle.std.specs.BTreeMap.{insert_entry, is_at};
-ghost use Rattle.ev_rows.specs.Rows.{RowsRise, is_outside, row_at, with_rows};
+ghost use Rattle.ev_rows.specs.Rows.{SortedByKey, is_outside, row_at, with_rows};
 ghost use Rattle.ev_base.specs.Orders.{message_cmp, user_message_cmp};
 ghost use Rattle.zr_posts.specs.Lent.{lends_message, lends_receipt};
 
-use crate::rows::{Message, Receipt};
 use ev_base::{Keyed, MessageId, NoMemory, UserId};
 use std::alloc::Global;
 use std::marker::Model;
+use zr_types::{Message, Receipt};
 
 /// The messages by their number, and the receipts by user and message.
 ///
@@ -72,7 +72,7 @@ impl Posts {
     /// All messages, rising by number.
     pub fn messages_rows(&self) -> &[(MessageId, Message)]
         ensures all { result.now ≡ self.now.messages.rows }
-        ensures rise { RowsRise message_cmp self.now.messages.rows }
+        ensures rise { SortedByKey message_cmp self.now.messages.rows }
     {
         self.messages.rows()
     }
@@ -138,7 +138,7 @@ impl Posts {
     /// All receipts, rising by user and then by message.
     pub fn receipts_rows(&self) -> &[((UserId, MessageId), Receipt)]
         ensures all { result.now ≡ self.now.receipts.rows }
-        ensures rise { RowsRise user_message_cmp self.now.receipts.rows }
+        ensures rise { SortedByKey user_message_cmp self.now.receipts.rows }
     {
         self.receipts.rows()
     }
@@ -168,7 +168,7 @@ impl Posts {
 
     /// Puts each of the new receipts, all in one pass.
     pub fn receipts_merge(&mut self, new_rows: Vec<((UserId, MessageId), Receipt)>)
-        requires rise { RowsRise user_message_cmp new_rows.items }
+        requires rise { SortedByKey user_message_cmp new_rows.items }
         requires room { vec_len new_rows ≤ self.old.receipts.spare }
         ensures rows { self.new.receipts.rows ≡ with_rows user_message_cmp self.old.receipts.rows new_rows.items }
         ensures room { self.old.receipts.spare ≤ self.new.receipts.spare + vec_len new_rows }

@@ -1,3 +1,10 @@
-pub mod Samples
 pub mod TextLemmas
 pub mod SoundLemmas
+pub mod RowEdits
+pub mod PostLoops
+pub mod PostRows
+pub mod Accepted
+pub mod Resolved
+pub mod EachRows
+pub mod Keeps
+pub mod Outcome

@@ -10,11 +10,11 @@ use Rattle.std.proofs.lemmas.Bool.{and_from, and_parts, or_from, or_parts, not-t
 use Rattle.std.proofs.lemmas.Option.{same_Some}
 use Rattle.std.proofs.lemmas.Slice.Eq.{bytes_eq-Decides}
 use Rattle.ev_rows.specs.KeyOrder.{KeyOrder}
-use Rattle.ev_rows.specs.Rows.{RowsRise, row_at}
+use Rattle.ev_rows.specs.Rows.{SortedByKey, row_at}
 use Rattle.ev_rows.proofs.RiseLemmas.{rise_tail}
 use Rattle.ev_rows.proofs.RowLemmas.{at_same, later_row, row_at_below, row_at_head}
 use Rattle.ev_base.specs.Orders.{text_cmp, text_order}
-use Rattle.zr_realm.specs.Sound.{TextsDiffer}
+use Rattle.zr_types.specs.Sound.{TextsDiffer}
 use Rattle.zr_realm.specs.SoundTests.{texts_differ, texts_fresh, with_text}
 
 module _ {K V : Type 0} {cmp : K → K → Ordering} (order : KeyOrder cmp) where
@@ -53,7 +53,7 @@ module _ {K V : Type 0} {cmp : K → K → Ordering} (order : KeyOrder cmp) (cou
         go (inr at) (inl b_is) = absurd (other_texts first a x at (ap counts b_is.1 ∙ counts_y) counts_x (ap text b_is.1 ∙ sym same))
         go (inr later_a) (inr later_b) = differ a b x y later_a later_b counts_x counts_y same
 
-    module _ (rise : RowsRise cmp (row ∷ rows)) (differ : TextsDiffer cmp counts text (row ∷ rows)) where
+    module _ (rise : SortedByKey cmp (row ∷ rows)) (differ : TextsDiffer cmp counts text (row ∷ rows)) where
       differ_first : counts row.1 ≡ true → NoneTaken (bytes_eq (text row.1)) rows
       differ_first counts_first key value at counted = false_from_ne_true (bytes_eq (text row.1) (text value)) (λ same.
           let here = differ row.0 key row.1 value (row_at_head order row rows) (later_row order row rows rise key value at) counts_first counted ((bytes_eq-Decides (text row.1) (text value)).0 same) in
@@ -85,7 +85,7 @@ module _ {K V : Type 0} {cmp : K → K → Ordering} (order : KeyOrder cmp) (cou
             differ_more row rows (λ counted. absurd (true≢false (sym counted ∙ is))) differ,
           )
 
-  stay_fresh : (taken : List ℕ → Bool) (rows : List (K × V)) → RowsRise cmp rows → NoneTaken taken rows → TextsDiffer cmp counts text rows → texts_fresh counts text taken rows ≡ true
+  stay_fresh : (taken : List ℕ → Bool) (rows : List (K × V)) → SortedByKey cmp rows → NoneTaken taken rows → TextsDiffer cmp counts text rows → texts_fresh counts text taken rows ≡ true
   stay_fresh taken [] rise none differ = refl
   stay_fresh taken (row ∷ rows) rise none differ = go (λ taken none. stay_fresh taken rows (rise_tail cmp row rows rise) none (differ_later row rows rise differ)) (counts row.1) refl
     where
@@ -99,7 +99,7 @@ module _ {K V : Type 0} {cmp : K → K → Ordering} (order : KeyOrder cmp) (cou
           (further (with_text (text row.1) taken) (λ key value at counted. or_from (bytes_eq (text row.1) (text value)) (taken (text value)) (differ_first row rows rise differ is key value at counted) (later key value at counted)))
       go further false is = further taken later
 
-  pub differ_says : (rows : List (K × V)) → RowsRise cmp rows → (texts_differ counts text rows ≡ true) ↔ TextsDiffer cmp counts text rows
+  pub differ_says : (rows : List (K × V)) → SortedByKey cmp rows → (texts_differ counts text rows ≡ true) ↔ TextsDiffer cmp counts text rows
   differ_says rows rise = (λ holds. (fresh (λ other. false) rows holds).1, stay_fresh (λ other. false) rows rise (λ key value at counted. refl))
 
 -- references to texts are in the order of the texts

@@ -1,10 +1,5 @@
-pub mod Tables
-pub mod Visibility
-pub mod Commands
-pub mod Refusals
-pub mod Effects
-pub mod Checks
 pub mod Values
-pub mod Sound
 pub mod SoundTests
 pub mod Stored
+pub mod Room
+pub mod Parts

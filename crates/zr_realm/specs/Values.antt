@@ -4,16 +4,8 @@ use Rattle.zr_people.specs.Tables.{PeopleTables}
 use Rattle.zr_streams.specs.Tables.{StreamTables}
 use Rattle.zr_posts.specs.Tables.{PostTables}
 use Rattle.zr_marks.specs.Tables.{MarkTables}
-use Rattle.zr_realm.specs.Tables.{Tables, RealmState}
-
--- how many more rows of each kind there is room for
-pub record Rooms : Type 0 where
-  pub users : ℕ
-  pub streams : ℕ
-  pub subscriptions : ℕ
-  pub messages : ℕ
-  pub receipts : ℕ
-  pub reactions : ℕ
+use Rattle.zr_types.specs.Tables.{Tables, RealmState}
+use Rattle.zr_realm.specs.declared.rooms.Rooms.{Rooms}
 
 pub record RealmValue : Type 0 where
   pub state : RealmState
@@ -32,21 +24,16 @@ module _ (people : PeopleTables) (streams : StreamTables) (posts : PostTables) (
     reactions = marks.reactions.rows;
   }
 
-  abbrev pub rooms_of : Rooms
-  rooms_of = record {
+  -- the room of each, and that for receipts to be merged
+  abbrev pub rooms_of : ℕ → Rooms
+  rooms_of merged = record {
     users = people.users.spare;
     streams = streams.streams.spare;
     subscriptions = streams.subscriptions.spare;
     messages = posts.messages.spare;
     receipts = posts.receipts.spare;
     reactions = marks.reactions.spare;
-  }
-
-  -- a realm of these tables, with its three counts
-  abbrev pub value_of : ℕ → ℕ → ℕ → RealmValue
-  value_of commits sent text_bytes = record {
-    state = record { tables = tables_of; commits = commits; sent = sent; text_bytes = text_bytes };
-    rooms = rooms_of;
+    merged = merged;
   }
 
 -- tables that come from elsewhere, with so many messages ever sent

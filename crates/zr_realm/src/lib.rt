@@ -1,14 +1,19 @@
-//! The tables of a realm joined: the commands that change them, when these are refused, and who sees
-//! what.
+//! The tables of a realm joined: who sees what, and what an accepted change makes of them.
 #![tactic(auto)]
 
-mod command;
+mod counts;
+mod laws;
+mod marks;
+mod merged;
+mod people;
+mod posts;
 mod realm;
-mod sight;
+mod rooms;
 mod stored;
+mod streams;
+mod tables;
+mod texts;
+mod visibility;
 
-pub use command::{
-    Change, Command, CommitFault, Committed, MarkCommand, Mode, NameField, PeopleCommand,
-    PostCommand, Refusal, StreamCommand, StreamRef, SubField,
-};
+pub use laws::{effects_keep_tables_sound, tables_are_sorted, tables_are_sound};
 pub use realm::Realm;

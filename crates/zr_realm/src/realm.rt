@@ -1,45 +1,47 @@
 //! A realm: the four tables, and what is counted besides.
-//!
-//! `reserve` and `apply`, by which an accepted change is made, have their place here.
 
 ghost use Rattle.std.specs.Prelude.{◌≡◌, ◌↔◌, IfOk, IfSome, IsSome, is_some, option_copied};
-ghost use Rattle.zr_realm.specs.Tables.{message_at, opening_state, receipt_of, stream_at, subscription_of, user_at};
-ghost use Rattle.zr_realm.specs.Sound.{IsSound, TablesRise};
+ghost use Rattle.zr_types.specs.Tables.{message_at, opening_state, receipt_of, stream_at, subscription_of, user_at};
+ghost use Rattle.zr_types.specs.Sound.{IsSound, TablesSorted};
+ghost use Rattle.zr_types.specs.declared.command.Command.{Command};
+ghost use Rattle.zr_types.specs.Checks.{IsChangeOf, WasChecked};
+ghost use Rattle.zr_types.specs.Effects.{after_command};
+ghost use Rattle.zr_realm.specs.Room.{HasRoom};
 ghost use Rattle.zr_realm.specs.Values.{stored_state, tables_of};
-ghost use Rattle.zr_realm.specs.Visibility.{is_active_user, is_subscribed, is_user};
+ghost use Rattle.zr_types.specs.Visibility.{is_active_user, is_subscribed, is_user};
 
-use crate::stored::Parts;
+use crate::counts::{messages_sent, text_bytes};
+use crate::merged::ReceiptBuffer;
+use crate::rooms::new_rows;
+use crate::tables::RealmTables;
 use ev_base::{MessageId, NoMemory, StreamId, Text, TextKind, UserId};
 use std::alloc::Global;
 use std::marker::Model;
 use zr_marks::Marks;
-use zr_people::{RealmRow, User, Users};
-use zr_posts::{Message, Posts, Receipt};
-use zr_streams::{Stream, Streams, Subscription};
+use zr_people::Users;
+use zr_posts::Posts;
+use zr_streams::Streams;
+use zr_types::{Change, Message, RealmRow, Receipt, Stream, Subscription, User};
 
 /// The tables of a realm, with how many commits and messages there ever were, and the bytes of the
 /// texts that accepted commands carried.
 #[derive(Debug, Drop)]
 pub struct Realm {
-    people: Users,
-    streams: Streams,
-    posts: Posts,
-    marks: Marks,
+    pub(crate) tables: RealmTables,
     commits: u64,
     sent: u64,
     text_bytes: u64,
 }
 
 impl Model for Realm {
-    ghost use Rattle.zr_realm.specs.Values.{RealmValue, tables_of, value_of};
-    ghost use Rattle.zr_realm.specs.Sound.{IsSound};
+    ghost use Rattle.zr_realm.specs.Values.{RealmValue};
+    ghost use Rattle.zr_realm.specs.Stored.{IsKept, value_of};
 
     ghost Value = { RealmValue };
 
-    ghost view = { λ it.
-        value_of it.people it.streams it.posts it.marks it.commits it.sent it.text_bytes };
+    ghost view = { λ it. value_of it.tables it.commits it.sent it.text_bytes };
 
-    ghost invariant = { λ it. IsSound (tables_of it.people it.streams it.posts it.marks) it.sent };
+    ghost invariant = { λ it. IsKept it.tables it.sent };
 }
 
 impl Realm {
@@ -49,10 +51,13 @@ impl Realm {
     {
         let row = opening_row(alloc)?;
         Ok(Realm {
-            people: Users::new(alloc, row),
-            streams: Streams::new(alloc),
-            posts: Posts::new(alloc),
-            marks: Marks::new(alloc),
+            tables: RealmTables {
+                people: Users::new(alloc, row),
+                streams: Streams::new(alloc),
+                posts: Posts::new(alloc),
+                marks: Marks::new(alloc),
+                merged: ReceiptBuffer::new(alloc),
+            },
             commits: 0,
             sent: 0,
             text_bytes: 0,
@@ -74,20 +79,18 @@ impl Realm {
         ensures sound { IfOk result
             (λ made. IsSome made ↔ IsSound (tables_of people streams posts marks) sent) }
     {
-        let parts = Parts {
-            people: &people,
-            streams: &streams,
-            posts: &posts,
-            marks: &marks,
-        };
-        if !parts.are_sound(alloc, sent)? {
-            return Ok(None);
-        }
-        Ok(Some(Realm {
+        let tables = RealmTables {
             people,
             streams,
             posts,
             marks,
+            merged: ReceiptBuffer::new(alloc),
+        };
+        if !tables.are_sound(alloc, sent)? {
+            return Ok(None);
+        }
+        Ok(Some(Realm {
+            tables,
             commits: 0,
             sent,
             text_bytes: 0,
@@ -99,41 +102,67 @@ impl Realm {
         ensures { IfOk result (λ realm. realm.state ≡ self.now.state) }
     {
         Ok(Realm {
-            people: self.people.copy()?,
-            streams: self.streams.copy()?,
-            posts: self.posts.copy()?,
-            marks: self.marks.copy()?,
+            tables: self.tables.copy()?,
             commits: self.commits,
             sent: self.sent,
             text_bytes: self.text_bytes,
         })
     }
 
+    /// Makes room for a change that a check made.
+    pub fn reserve(&mut self, change: &Change) -> Result<(), NoMemory>
+        ensures state { self.new.state ≡ self.old.state }
+        ensures room { IfOk result (λ _. HasRoom self.new change.now) }
+    {
+        self.tables.reserve(new_rows(change))
+    }
+
+    /// Makes a change that a check made and for which there is room, and returns the commit's
+    /// number. Takes no memory.
+    pub fn apply(&mut self, change: Change) -> u64
+        requires checked { WasChecked self.old.state change }
+        requires room { HasRoom self.old change }
+        ensures state { (command : Command) → IsChangeOf self.old.state command change
+            → self.new.state ≡ after_command change.actor change.moment command self.old.state }
+        ensures number { result ≡ self.new.state.commits }
+    {
+        let bytes = text_bytes(&change.command);
+        let messages = messages_sent(&change.command);
+        self.tables.change(self.sent, change);
+        self.text_bytes += bytes;
+        self.sent += messages;
+        self.commits += 1;
+        self.commits
+    }
+
     pub fn people(&self) -> &Users
         ensures realm { result.now.realm ≡ self.now.state.tables.realm }
         ensures users { result.now.users.rows ≡ self.now.state.tables.users }
     {
-        &self.people
+        &self.tables.people
     }
 
+    /// The tables of streams and subscriptions. The rows of every table of the realm are sorted.
     pub fn streams(&self) -> &Streams
         ensures streams { result.now.streams.rows ≡ self.now.state.tables.streams }
-        ensures subscriptions { result.now.subscriptions.rows ≡ self.now.state.tables.subscriptions }
+        ensures subscriptions { result.now.subscriptions.rows
+            ≡ self.now.state.tables.subscriptions }
+        ensures sorted { TablesSorted self.now.state.tables }
     {
-        &self.streams
+        &self.tables.streams
     }
 
     pub fn posts(&self) -> &Posts
         ensures messages { result.now.messages.rows ≡ self.now.state.tables.messages }
         ensures receipts { result.now.receipts.rows ≡ self.now.state.tables.receipts }
     {
-        &self.posts
+        &self.tables.posts
     }
 
     pub fn marks(&self) -> &Marks
         ensures { result.now.reactions.rows ≡ self.now.state.tables.reactions }
     {
-        &self.marks
+        &self.tables.marks
     }
 
     /// How many commits there were.
@@ -157,58 +186,39 @@ impl Realm {
         self.text_bytes
     }
 
-    /// A law: what holds of the tables of every realm. The call does nothing.
-    pub fn is_sound(&self)
-        ensures sound { IsSound self.now.state.tables self.now.state.sent }
-    {
-        let _ = &self.people;
-    }
-
-    /// A law: the rows of every table rise. The call does nothing.
-    pub fn tables_rise(&self)
-        ensures { TablesRise self.now.state.tables }
-    {
-        self.people.users_rows();
-        self.streams.streams_rows();
-        self.streams.subscriptions_rows();
-        self.posts.messages_rows();
-        self.posts.receipts_rows();
-        self.marks.reactions_rows();
-    }
-
     /// The row of a user.
     pub fn user(&self, user: UserId) -> Option<&User>
         ensures { option_copied result ≡ user_at self.now.state.tables user }
     {
-        self.people.users_get(&user)
+        self.tables.people.users_get(&user)
     }
 
     /// The row of a stream.
     pub fn stream(&self, stream: StreamId) -> Option<&Stream>
         ensures { option_copied result ≡ stream_at self.now.state.tables stream }
     {
-        self.streams.streams_get(&stream)
+        self.tables.streams.streams_get(&stream)
     }
 
     /// The row of a message.
     pub fn message(&self, message: MessageId) -> Option<&Message>
         ensures { option_copied result ≡ message_at self.now.state.tables message }
     {
-        self.posts.messages_get(&message)
+        self.tables.posts.messages_get(&message)
     }
 
     /// The subscription of a user to a stream.
     pub fn subscription(&self, user: UserId, stream: StreamId) -> Option<&Subscription>
         ensures { option_copied result ≡ subscription_of self.now.state.tables user stream }
     {
-        self.streams.subscriptions_get(&(user, stream))
+        self.tables.streams.subscriptions_get(&(user, stream))
     }
 
     /// The receipt of a user for a message.
     pub fn receipt(&self, user: UserId, message: MessageId) -> Option<&Receipt>
         ensures { option_copied result ≡ receipt_of self.now.state.tables user message }
     {
-        self.posts.receipts_get(&(user, message))
+        self.tables.posts.receipts_get(&(user, message))
     }
 
     pub fn is_user(&self, user: UserId) -> bool

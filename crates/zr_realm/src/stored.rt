@@ -2,18 +2,16 @@
 
 ghost use Rattle.std.specs.Prelude.{◌≡◌, ◌↔◌, ℕ, Bool, ◌&&◌, List, true, IfOk};
 ghost use Rattle.std.specs.List.{list_all};
-ghost use Rattle.zr_realm.specs.Sound.{IsSound, TablesRise, is_message, is_sent, is_stream, place_stands, message_stands, reaction_stands, receipt_stands, subscription_stands};
-ghost use Rattle.zr_realm.specs.SoundTests.{count_from, is_sound, rows_stand, texts_differ};
+ghost use Rattle.zr_types.specs.Sound.{IsSound, TablesSorted, is_message, is_sent, is_stream, refers_to_rows, is_valid_message, is_valid_reaction, is_valid_receipt, is_valid_subscription};
+ghost use Rattle.zr_realm.specs.SoundTests.{count_from, is_sound, rows_are_valid, texts_differ};
 ghost use Rattle.zr_realm.specs.Stored.{tables_in};
-ghost use Rattle.zr_realm.specs.Visibility.{is_user};
+ghost use Rattle.zr_types.specs.Visibility.{is_user};
 
+use crate::tables::RealmTables;
 use ev_base::{MessageId, NoMemory, Place, StreamId, Text, UserId};
 use std::alloc::Global;
 use std::collections::BTreeSet;
-use zr_marks::Marks;
-use zr_people::{User, Users};
-use zr_posts::{Message, Posts};
-use zr_streams::{Stream, Streams};
+use zr_types::{Message, Stream, User};
 
 // A key that counts rows from 1 on.
 trait Numbered {
@@ -66,7 +64,7 @@ trait HasOwnText {
 }
 
 impl HasOwnText for Stream {
-    ghost use Rattle.zr_realm.specs.Sound.{is_unarchived};
+    ghost use Rattle.zr_types.specs.Sound.{is_unarchived};
 
     ghost counts = { is_unarchived };
 
@@ -82,7 +80,7 @@ impl HasOwnText for Stream {
 }
 
 impl HasOwnText for User {
-    ghost use Rattle.zr_realm.specs.Sound.{always};
+    ghost use Rattle.zr_types.specs.Sound.{always};
 
     ghost counts = { always };
 
@@ -109,19 +107,11 @@ fn texts_differ<K, V: HasOwnText>(alloc: Global, rows: &[(K, V)]) -> Result<bool
     Ok(true)
 }
 
-/// The four tables of a realm to be.
-#[derive(Clone, Copy)]
-pub struct Parts<'a> {
-    pub people: &'a Users,
-    pub streams: &'a Streams,
-    pub posts: &'a Posts,
-    pub marks: &'a Marks,
-}
-
-impl Parts<'_> {
-    /// Whether they are sound, with so many messages ever sent.
+impl RealmTables {
+    /// Whether the tables are sound, with so many messages ever sent.
     pub fn are_sound(&self, alloc: Global, sent: u64) -> Result<bool, NoMemory>
-        ensures { IfOk result (λ sound. (sound ≡ true) ↔ IsSound (tables_in self.now) sent) }
+        ensures sound { IfOk result (λ sound. (sound ≡ true) ↔ IsSound (tables_in self.now) sent) }
+        ensures sorted { IfOk result (λ _. TablesSorted (tables_in self.now)) }
     {
         let passes = self.pass_tests(alloc, sent)?;
         self.tables_rise();
@@ -129,7 +119,7 @@ impl Parts<'_> {
     }
 
     fn tables_rise(&self)
-        ensures { TablesRise (tables_in self.now) }
+        ensures { TablesSorted (tables_in self.now) }
     {
         self.people.users_rows();
         self.streams.streams_rows();
@@ -143,21 +133,21 @@ impl Parts<'_> {
         ensures { IfOk result (λ passes. passes ≡ is_sound (tables_in self.now) sent) }
     {
         Ok(
-            self.rows_stand(sent)
+            self.rows_are_valid(sent)
                 && texts_differ(alloc, self.streams.streams_rows())?
                 && texts_differ(alloc, self.people.users_rows())?,
         )
     }
 
-    fn rows_stand(&self, sent: u64) -> bool
-        ensures { result ≡ rows_stand (tables_in self.now) sent }
+    fn rows_are_valid(&self, sent: u64) -> bool
+        ensures { result ≡ rows_are_valid (tables_in self.now) sent }
     {
         count_from_one(self.people.users_rows())
             && count_from_one(self.streams.streams_rows())
-            && self.messages_stand(sent)
-            && self.subscriptions_stand()
-            && self.receipts_stand()
-            && self.reactions_stand()
+            && self.messages_are_valid(sent)
+            && self.subscriptions_are_valid()
+            && self.receipts_are_valid()
+            && self.reactions_are_valid()
     }
 
     fn has_user(&self, user: UserId) -> bool
@@ -184,8 +174,8 @@ impl Parts<'_> {
         self.posts.messages_get(&message).is_some()
     }
 
-    fn place_stands(&self, place: &Place) -> bool
-        ensures { result ≡ place_stands (tables_in self.now) place.now }
+    fn refers_to_rows(&self, place: &Place) -> bool
+        ensures { result ≡ refers_to_rows (tables_in self.now) place.now }
     {
         match place {
             Place::Stream { stream, .. } => self.has_stream(*stream),
@@ -193,42 +183,41 @@ impl Parts<'_> {
         }
     }
 
-    fn message_stands(&self, row: &Message) -> bool
-        ensures { result ≡ message_stands (tables_in self.now) row.now }
+    fn is_valid_message(&self, row: &Message) -> bool
+        ensures { result ≡ is_valid_message (tables_in self.now) row.now }
     {
-        self.has_user(row.sender) && self.place_stands(&row.place)
+        self.has_user(row.sender) && self.refers_to_rows(&row.place)
     }
 
-    fn messages_stand(&self, sent: u64) -> bool
+    fn messages_are_valid(&self, sent: u64) -> bool
         ensures { result ≡ list_all (λ row. is_sent sent row.0
-            && message_stands (tables_in self.now) row.1) self.now.posts.now.messages.rows }
+            && is_valid_message (tables_in self.now) row.1) self.now.posts.messages.rows }
     {
         let rows = self.posts.messages_rows();
-        rows.iter()
-            .all(|row| is_sent(sent, row.0) && self.message_stands(&row.1))
+        rows.iter().all(|row| is_sent(sent, row.0) && self.is_valid_message(&row.1))
     }
 
-    fn subscriptions_stand(&self) -> bool
-        ensures { result ≡ list_all (λ row. subscription_stands (tables_in self.now) row.0)
-            self.now.streams.now.subscriptions.rows }
+    fn subscriptions_are_valid(&self) -> bool
+        ensures { result ≡ list_all (λ row. is_valid_subscription (tables_in self.now) row.0)
+            self.now.streams.subscriptions.rows }
     {
         let rows = self.streams.subscriptions_rows();
         rows.iter()
             .all(|row| self.has_user(row.0.0) && self.has_stream(row.0.1))
     }
 
-    fn receipts_stand(&self) -> bool
-        ensures { result ≡ list_all (λ row. receipt_stands (tables_in self.now) row.0)
-            self.now.posts.now.receipts.rows }
+    fn receipts_are_valid(&self) -> bool
+        ensures { result ≡ list_all (λ row. is_valid_receipt (tables_in self.now) row.0)
+            self.now.posts.receipts.rows }
     {
         let rows = self.posts.receipts_rows();
         rows.iter()
             .all(|row| self.has_user(row.0.0) && self.has_message(row.0.1))
     }
 
-    fn reactions_stand(&self) -> bool
-        ensures { result ≡ list_all (λ row. reaction_stands (tables_in self.now) row.0)
-            self.now.marks.now.reactions.rows }
+    fn reactions_are_valid(&self) -> bool
+        ensures { result ≡ list_all (λ row. is_valid_reaction (tables_in self.now) row.0)
+            self.now.marks.reactions.rows }
     {
         let rows = self.marks.reactions_rows();
         rows.iter()

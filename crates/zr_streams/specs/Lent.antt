@@ -5,10 +5,10 @@ use Rattle.ev_rows.specs.Lent.{with_value}
 use Rattle.ev_base.specs.Orders.{stream_cmp, user_stream_cmp}
 use Rattle.ev_base.specs.declared.ids.StreamId.{StreamId}
 use Rattle.ev_base.specs.declared.ids.UserId.{UserId}
-use Rattle.zr_streams.specs.declared.rows.Stream.{Stream}
-use Rattle.zr_streams.specs.declared.rows.Subscription.{Subscription}
-use Rattle.zr_streams.specs.contracts.rows.Stream.{the_row as stream_type}
-use Rattle.zr_streams.specs.contracts.rows.Subscription.{the_row as subscription_type}
+use Rattle.zr_types.specs.declared.streams.Stream.{Stream}
+use Rattle.zr_types.specs.declared.streams.Subscription.{Subscription}
+use Rattle.zr_types.specs.contracts.streams.Stream.{the_row as stream_type}
+use Rattle.zr_types.specs.contracts.streams.Subscription.{the_row as subscription_type}
 use Rattle.zr_streams.specs.contracts.table.Streams.{the_row as table_type}
 use Rattle.zr_streams.specs.Tables.{StreamTables}
 

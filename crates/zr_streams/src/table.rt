@@ -5,14 +5,14 @@ ghost use Rattle.std.specs.Option.{option_copied_mut};
 ghost use Rattle.std.specs.Borrow.{sem};
 ghost use Rattle.std.specs.Map.{remove_entry};
 ghost use Rattle.std.specs.BTreeMap.{insert_entry, is_at};
-ghost use Rattle.ev_rows.specs.Rows.{RowsRise, is_outside, row_at};
+ghost use Rattle.ev_rows.specs.Rows.{SortedByKey, is_outside, row_at};
 ghost use Rattle.ev_base.specs.Orders.{stream_cmp, user_stream_cmp};
 ghost use Rattle.zr_streams.specs.Lent.{lends_stream, lends_subscription};
 
-use crate::rows::{Stream, Subscription};
 use ev_base::{Keyed, NoMemory, StreamId, UserId};
 use std::alloc::Global;
 use std::marker::Model;
+use zr_types::{Stream, Subscription};
 
 /// The streams by their number, and the subscriptions by user and stream.
 ///
@@ -71,7 +71,7 @@ impl Streams {
     /// All streams, archived or not, rising by number.
     pub fn streams_rows(&self) -> &[(StreamId, Stream)]
         ensures all { result.now ≡ self.now.streams.rows }
-        ensures rise { RowsRise stream_cmp self.now.streams.rows }
+        ensures rise { SortedByKey stream_cmp self.now.streams.rows }
     {
         self.streams.rows()
     }
@@ -137,7 +137,7 @@ impl Streams {
     /// All subscriptions, rising by user and then by stream.
     pub fn subscriptions_rows(&self) -> &[((UserId, StreamId), Subscription)]
         ensures all { result.now ≡ self.now.subscriptions.rows }
-        ensures rise { RowsRise user_stream_cmp self.now.subscriptions.rows }
+        ensures rise { SortedByKey user_stream_cmp self.now.subscriptions.rows }
     {
         self.subscriptions.rows()
     }

@@ -1,5 +1,4 @@
-pub mod NestedLemmas
 mod Samples
 pub mod SiftedLemmas
+pub mod SubscriberLemmas
 pub mod TurnedLemmas
-pub mod ViewLemmas

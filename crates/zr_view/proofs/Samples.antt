@@ -12,11 +12,11 @@ use Rattle.ev_types.specs.declared.rows.ShownUser.{ShownUser}
 use Rattle.ev_types.specs.declared.rows.ShownStream.{ShownStream}
 use Rattle.ev_types.specs.declared.rows.ShownSubscription.{ShownSubscription}
 use Rattle.ev_types.specs.declared.rows.ShownMessage.{ShownMessage}
-use Rattle.zr_realm.specs.declared.command.Command.TheVariants.{Marks}
-use Rattle.zr_realm.specs.declared.command.MarkCommand.TheVariants as of_marks
-use Rattle.zr_realm.specs.Tables.{RealmState}
-use Rattle.zr_realm.proofs.Samples.{ann, archived, bob, den, direct, gus, lab, left, made, nobody, one, realm, three, two, with_guest, with_protected, with_reaction, without_bob}
-use Rattle.zr_view.specs.Views.{messages, reactions, realm_users, shown_realm, starred_messages, streams, subscribers, subscriptions, unread_messages}
+use Rattle.zr_types.specs.declared.command.Command.TheVariants.{Marks}
+use Rattle.zr_types.specs.declared.command.MarkCommand.TheVariants as of_marks
+use Rattle.zr_types.specs.Tables.{RealmState}
+use Rattle.zr_types.proofs.Samples.{ann, archived, bob, den, direct, gus, lab, left, made, nobody, one, realm, three, two, with_guest, with_protected, with_reaction, without_bob}
+use Rattle.zw_views.specs.Views.{messages, reactions, realm_users, shown_realm, starred_messages, streams, subscribers, subscriptions, unread_messages}
 
 -- the realm's name and all users are shown to everybody
 the_realm : shown_realm realm.tables.realm ≡ record { name = codes "Realm"; description = [] }
@@ -28,8 +28,8 @@ shown_ann = (ann, record { email = codes "ann@x.org"; full_name = codes "Ann"; r
 abbrev shown_bob : Bool → UserId × ShownUser
 shown_bob active = (bob, record { email = codes "bob@x.org"; full_name = codes "Bob"; role = role.Member; is_active = active })
 
-all_users : realm_users realm.tables ≡ shown_ann ∷ shown_bob true ∷ []
-all_users = refl
+max_users : realm_users realm.tables ≡ shown_ann ∷ shown_bob true ∷ []
+max_users = refl
 
 an_inactive_user : realm_users without_bob.tables ≡ shown_ann ∷ shown_bob false ∷ []
 an_inactive_user = refl

@@ -14,7 +14,7 @@ use Rattle.std.proofs.lemmas.Map.Keys.{IsDistinct-head, IsDistinct-tail, IsDisti
 use Rattle.std.proofs.lemmas.Map.Views.{Contains-keys_from_lookup, IsSome-lookup_from_Contains, tells_apart}
 use Rattle.ev_base.specs.Orders.{pair_cmp}
 use Rattle.ev_rows.specs.KeyOrder.{KeyOrder}
-use Rattle.ev_rows.specs.Rows.{RowsRise, keys_of, only_if, row_at}
+use Rattle.ev_rows.specs.Rows.{SortedByKey, keys_of, only_if, row_at}
 use Rattle.ev_rows.proofs.RiseLemmas.{IsBelow, rise_head, rise_tail}
 use Rattle.ev_rows.proofs.RowLemmas.{at_same}
 
@@ -83,7 +83,7 @@ module _ {A B V : Type 0} (acmp : A → A → Ordering) (bcmp : B → B → Orde
       go false further = further
 
   -- no key comes twice
-  pub distinct-turned : (rows : List ((A × B) × V)) → RowsRise (pair_cmp acmp bcmp) rows → IsDistinct (eq_by_cmp (pair_cmp bcmp acmp)) (keys_of (filter_map (turned test) rows))
+  pub distinct-turned : (rows : List ((A × B) × V)) → SortedByKey (pair_cmp acmp bcmp) rows → IsDistinct (eq_by_cmp (pair_cmp bcmp acmp)) (keys_of (filter_map (turned test) rows))
   unfolding IsDistinct
   distinct-turned [] rise = tt
   distinct-turned (row ∷ rows) rise = go (test row.0) (distinct-turned rows (rise_tail (pair_cmp acmp bcmp) row rows rise))
@@ -128,7 +128,7 @@ sorted-keys {K} cmp rows sorted = λ k d low within.
 
 module _ {K : Type 0} {cmp : K → K → Ordering} (order : KeyOrder cmp) (found sorted : List (K × ⊤)) (same : IsPermutation found sorted) where
   -- marked keys that are sorted again rise
-  pub rise-sorted : IsDistinct (eq_by_cmp cmp) (keys_of found) → IsSorted (mark_cmp cmp) sorted → RowsRise cmp sorted
+  pub rise-sorted : IsDistinct (eq_by_cmp cmp) (keys_of found) → IsSorted (mark_cmp cmp) sorted → SortedByKey cmp sorted
   rise-sorted distinct in_order =
       strict_from_sorted order (keys_of sorted) (sorted-keys cmp sorted in_order)
       (IsDistinct-IsPermutation (eq_by_cmp cmp) (λ x y. (eq_by_cmp_equiv order.total).symm x y) (keys_of found) (keys_of sorted)

@@ -2,8 +2,8 @@
 
 ghost use Rattle.std.specs.Prelude.{◌≡◌, ◌↔◌, false, Err, IfOk};
 ghost use Rattle.ev_types.specs.Sections.{IsWhole};
-ghost use Rattle.zr_realm.specs.Visibility.{is_active_user};
-ghost use Rattle.zr_view.specs.Views.{section_of, view_of};
+ghost use Rattle.zr_types.specs.Visibility.{is_active_user};
+ghost use Rattle.zw_views.specs.Views.{section_of, view_of};
 ghost use Rattle.zr_view.specs.declared.fault.FetchFault.{FetchFault};
 
 use crate::fault::FetchFault;
@@ -44,7 +44,7 @@ pub fn fetch_all(alloc: Global, realm: &Realm, user: UserId) -> Result<State, Fe
     if !realm.is_active_user(user) {
         return Err(FetchFault::Unknown);
     }
-    match whole_state(alloc, realm, user) {
+    match whole_view(alloc, realm, user) {
         Ok(state) => Ok(state),
         Err(NoMemory) => Err(FetchFault::NoMemory),
     }
@@ -76,7 +76,8 @@ fn section_rows(
     Ok(rows)
 }
 
-fn whole_state(alloc: Global, realm: &Realm, user: UserId) -> Result<State, NoMemory>
+/// All sections of a user's view, also of a user who is inactive or doesn't exist.
+pub fn whole_view(alloc: Global, realm: &Realm, user: UserId) -> Result<State, NoMemory>
     ensures { IfOk result (λ state. IsWhole state (view_of realm.now.state.tables user)) }
 {
     Ok(State {

@@ -3,12 +3,10 @@
 
 mod fault;
 mod fetching;
-mod laws;
 mod sections;
 mod shown;
 mod sift;
 mod subscribers;
 
 pub use fault::FetchFault;
-pub use fetching::{fetch, fetch_all};
-pub use laws::views_rise;
+pub use fetching::{fetch, fetch_all, whole_view};

@@ -1,17 +1,16 @@
 //! The sections that are made of one table, row by row.
 
 ghost use Rattle.std.specs.Prelude.{◌≡◌, IfOk, option_copied};
-ghost use Rattle.zr_view.specs.RowViews.{message_in, reaction_in, receipt_in, starred_in, stream_in, subscription_in, unread_in};
-ghost use Rattle.zr_view.specs.Views as view;
+ghost use Rattle.zw_views.specs.RowViews.{message_in, reaction_in, receipt_in, starred_in, stream_in, subscription_in, unread_in};
+ghost use Rattle.zw_views.specs.Views as view;
 
 use crate::shown::{shown_message, shown_stream, shown_subscription, shown_user};
 use crate::sift::sifted;
 use ev_base::{Keyed, MessageId, NoMemory, Place, StreamId, Text, UserId};
 use ev_types::{ShownMessage, ShownStream, ShownSubscription, ShownUser};
 use std::alloc::Global;
-use zr_posts::{Message, Receipt};
 use zr_realm::Realm;
-use zr_streams::Stream;
+use zr_types::{Message, Receipt, Stream};
 
 pub fn realm_users(alloc: Global, realm: &Realm) -> Result<Keyed<UserId, ShownUser>, NoMemory>
     ensures { IfOk result (λ shown. shown.rows ≡ view.realm_users realm.now.state.tables) }

@@ -1,13 +1,11 @@
 //! Rows as a view shows them.
 
 ghost use Rattle.std.specs.Prelude.{◌≡◌, IfOk};
-ghost use Rattle.zr_view.specs.Views.{shown_flags, shown_message, shown_realm, shown_stream, shown_subscription, shown_user};
+ghost use Rattle.zw_views.specs.Views.{shown_flags, shown_message, shown_realm, shown_stream, shown_subscription, shown_user};
 
 use ev_base::{NoMemory, Privacy};
 use ev_types::{MessageFlags, ShownMessage, ShownRealm, ShownStream, ShownSubscription, ShownUser};
-use zr_people::{RealmRow, User};
-use zr_posts::{Message, Receipt};
-use zr_streams::{Stream, Subscription};
+use zr_types::{Message, RealmRow, Receipt, Stream, Subscription, User};
 
 pub fn shown_realm(row: &RealmRow) -> Result<ShownRealm, NoMemory>
     ensures { IfOk result (λ shown. shown ≡ shown_realm row.now) }

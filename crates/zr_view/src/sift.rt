@@ -2,7 +2,7 @@
 
 ghost use Rattle.std.specs.Prelude.{◌≡◌, Option, IfOk};
 ghost use Rattle.std.specs.Fn.{FnReturnsAt};
-ghost use Rattle.ev_rows.specs.Rows.{RowsRise, sift};
+ghost use Rattle.ev_rows.specs.Rows.{SortedByKey, sift};
 ghost use Rattle.zr_view.specs.Makers.{Makes};
 
 use ev_base::{ExactClone, Keyed, NoMemory};
@@ -15,7 +15,7 @@ pub fn sifted<
     W: Drop,
     F: Fn(&(K, V)) -> Result<Option<W>, NoMemory>,
 >(alloc: Global, rows: &[(K, V)], make: F) -> Result<Keyed<K, W>, NoMemory>
-    requires rise { RowsRise K.cmp rows.now }
+    requires rise { SortedByKey K.cmp rows.now }
     requires calls { F.IsAlwaysCallable make }
     ensures { (of : K × V → Option W) → Makes F.Fn make of
         → IfOk result (λ made. made.rows ≡ sift of rows.now) }

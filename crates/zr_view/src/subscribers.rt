@@ -2,13 +2,13 @@
 
 ghost use Rattle.std.specs.Prelude.{◌≡◌, IfOk};
 ghost use Rattle.std.specs.List.{filter_map};
-ghost use Rattle.zr_view.specs.RowViews.{subscriber_in};
-ghost use Rattle.zr_view.specs.Views as view;
+ghost use Rattle.zw_views.specs.RowViews.{subscriber_in};
+ghost use Rattle.zw_views.specs.Views as view;
 
 use ev_base::{Keyed, NoMemory, StreamId, UserId};
 use std::alloc::Global;
 use zr_realm::Realm;
-use zr_streams::Subscription;
+use zr_types::Subscription;
 
 /// One pass over the subscriptions, which rise by user and then by stream, and a sort.
 pub fn subscribers(
@@ -18,8 +18,8 @@ pub fn subscribers(
 ) -> Result<Keyed<(StreamId, UserId), ()>, NoMemory>
     ensures { IfOk result (λ shown. shown.rows ≡ view.subscribers realm.now.state.tables user) }
 {
-    let mut found = subscribers_by_user(alloc, realm, user)?;
-    realm.tables_rise();
+    let rows = realm.streams().subscriptions_rows();
+    let mut found = subscribers_by_user(alloc, realm, user, rows)?;
     found.sort_unstable();
     Ok(Keyed::from_vec(found))
 }
@@ -28,11 +28,11 @@ fn subscribers_by_user(
     alloc: Global,
     realm: &Realm,
     user: UserId,
+    rows: &[((UserId, StreamId), Subscription)],
 ) -> Result<Vec<((StreamId, UserId), ())>, NoMemory>
     ensures { IfOk result (λ found. found.items
-        ≡ filter_map (subscriber_in realm.now.state.tables user) realm.now.state.tables.subscriptions) }
+        ≡ filter_map (subscriber_in realm.now.state.tables user) rows.now) }
 {
-    let rows = realm.streams().subscriptions_rows();
     let mut found = Vec::new(alloc);
     for row in rows {
         if let Some(subscriber) = subscriber_in(realm, user, row) {

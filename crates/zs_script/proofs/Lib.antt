@@ -1,4 +1,8 @@
-pub mod LineWords
+pub mod Combined
+pub mod Failing
+pub mod ListLemmas
 pub mod Meanings
-pub mod Numbers
-pub mod Outcomes
+pub mod NumberLemmas
+pub mod StepAnswers
+pub mod TextLemmas
+pub mod PushedShards

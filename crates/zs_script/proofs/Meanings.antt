@@ -1,122 +1,349 @@
 -- The same words spell one step at most, and a line that is passed over spells none.
-use Rattle.std.proofs.Common.{◌≡◌, ℕ, ◌+◌, ◌<◌, true, List, [], ◌∷◌, length, get_or, ℤ, pos, neg_ℤ, refl, sym, ap, ◌∙◌, subst, inl, inr, arith}
-use Rattle.std.specs.List.{list_all}
+use Rattle.std.proofs.Common.{◌≡◌, ℕ, ◌≤◌, ◌<◌, ◌==◌, true, false, List, [], ◌∷◌, ◌++◌, map, find, length, codes, bytes_eq, None, Some, pos, neg_ℤ, Err, refl, sym, ap, ◌∙◌, subst, inl, inr, arith}
+use Rattle.std.specs.List.{list_all, slice_split, onto_first}
 use Rattle.std.proofs.lemmas.Bool.{and_parts, false≢true}
-use Rattle.ev_base.specs.declared.ids.UserId.{UserId}
-use Rattle.ev_base.specs.declared.ids.QueueId.{QueueId}
-use Rattle.zw_lines.specs.declared.people.Command.{Command as Change}
-use Rattle.zw_lines.specs.declared.people.Command.TheVariants.{UserAdd, UserUpdate}
+use Rattle.ev_base.specs.declared.kinds.Role.{Role}
+use Rattle.ev_base.specs.declared.kinds.Role.TheVariants.{Owner, Administrator, Moderator, Member, Guest}
+use Rattle.ev_base.specs.Roles.{role_number, role_of}
+use Rattle.ev_types.specs.declared.kind.EventKind.{EventKind}
+use Rattle.ev_types.specs.declared.kind.EventKind.TheVariants as kind
+use Rattle.ev_types.specs.declared.kind.Types.{Types}
+use Rattle.ev_types.specs.declared.kind.Types.TheVariants as types
+use Rattle.ev_types.specs.Feeders.{kind_name}
+use Rattle.zr_types.specs.declared.command.Command.{Command as Change}
+use Rattle.zr_types.specs.declared.command.SubField.TheVariants as value
+use Rattle.zr_types.specs.declared.command.Command.TheVariants.{Streams}
+use Rattle.zr_types.specs.declared.command.StreamCommand.TheVariants.{SubProperty}
+use Rattle.zs_script.specs.declared.names.CommandName.{CommandName}
+use Rattle.zs_script.specs.declared.names.CommandName.TheVariants as command
+use Rattle.zs_script.specs.declared.names.LineName.{LineName}
+use Rattle.zs_script.specs.declared.names.LineName.TheVariants as line
+use Rattle.zs_script.specs.declared.names.SubProperty.{SubProperty as SubName}
+use Rattle.zs_script.specs.declared.names.SubProperty.TheVariants as sub
+use Rattle.zs_script.specs.declared.reading.LineFault.TheVariants.{NotAStep}
 use Rattle.zs_script.specs.declared.step.Step.{Step}
-use Rattle.zs_script.specs.declared.step.Step.TheVariants.{Command, NoticeAll, Push, Register, Poll}
-use Rattle.zs_script.specs.Grammar.{Spells, WordsSpell, IsNumber, IsInteger, is_digit, value_of_digits}
-use Rattle.zs_script.specs.Words.{words_of}
-use Rattle.zs_script.proofs.LineWords.{words_spell}
+use Rattle.zs_script.specs.declared.step.Step.TheVariants.{Command, Register}
+use Rattle.zs_script.specs.Grammar.{IsPassedOver, words_of, IsNameAmong, IsNameField, IsPrivacy, IsTruth, ValueSpells, SubPropertySpells, ArgumentsSpell, CommandSpells, RegisterSpells, RestSpells, WordsSpell, Spells}
+use Rattle.zs_script.specs.Lists.{parts_of, IsTypes, IsFetch, is_fetch_name}
+use Rattle.zs_script.specs.Names.{kinds, sub_properties, sub_name}
+use Rattle.zs_script.specs.Numbers.{is_digit, IsNumber, IsInteger, IsId, IsUser, IsStream, IsShard, IsRole, IsQueue, IsEventNumber}
+use Rattle.zs_script.specs.Readings.{ReadsWords}
+use Rattle.zs_script.specs.Texts.{IsText, decoded}
+use Rattle.zs_script.proofs.Combined.{SpellsOne, one_word, two_words, three_words, four_words, one_whole, two_whole, three_whole, four_whole}
+use Rattle.zs_script.proofs.TextLemmas.{decoded_none}
 
--- the bytes of the first word and the number of the words, which tell the kinds of line apart
-abbrev shape : List (List ℕ) → ℕ
-shape words = length (get_or words 0 []) + length words
+one_number : SpellsOne IsNumber
+one_number word a b is_a is_b = sym is_a.2 ∙ is_b.2
 
-abbrev shape_of : Step → ℕ
-shape_of (Command actor (UserAdd email full_name key)) = 14
-shape_of (Command actor (UserUpdate user full_name)) = 15
-shape_of NoticeAll = 7
-shape_of (Push shard) = 6
-shape_of (Register user) = 12
-shape_of (Poll user queue after) = 8
+one_id : SpellsOne IsId
+one_id word a b is_a is_b = one_number word a b is_a.0 is_b.0
 
-has_shape : (words : List (List ℕ)) (step : Step) → WordsSpell words step → shape words ≡ shape_of step
-has_shape words (Command actor (UserAdd email full_name key)) is = ap shape is.0
-has_shape words (Command actor (UserUpdate user full_name)) is = ap shape is.2
-has_shape words NoticeAll is = ap shape is
-has_shape words (Push shard) is = ap shape is.0
-has_shape words (Register user) is = ap shape is.0
-has_shape words (Poll user queue after) is = ap shape is.2
+one_user : SpellsOne IsUser
+one_user word a b is_a is_b =
+    let number = one_id word a.0 b.0 is_a is_b in
+    λ i. record { 0 = number i }
 
-same_shape : (words : List (List ℕ)) (a b : Step) → WordsSpell words a → WordsSpell words b → shape_of a ≡ shape_of b
-same_shape words a b is_a is_b = sym (has_shape words a is_a) ∙ has_shape words b is_b
+one_stream : SpellsOne IsStream
+one_stream word a b is_a is_b =
+    let number = one_id word a.0 b.0 is_a is_b in
+    λ i. record { 0 = number i }
 
--- word k of two lists that are the same
-same_word : (words left right : List (List ℕ)) (k : ℕ) → words ≡ left → words ≡ right → get_or left k [] ≡ get_or right k []
-same_word words left right k is_left is_right = ap (λ parts. get_or parts k []) (sym is_left ∙ is_right)
+one_shard : (shards : ℕ) → SpellsOne (IsShard shards)
+one_shard shards word a b is_a is_b = one_id word a b is_a.0 is_b.0
 
-abbrev tail : List ℕ → List ℕ
-tail [] = []
-tail (first ∷ rest) = rest
+role_back : (role : Role) → role_of (role_number role) ≡ Some role
+role_back Owner = refl
+role_back Administrator = refl
+role_back Moderator = refl
+role_back Member = refl
+role_back Guest = refl
 
-same_number : (left right : List ℕ) (a b : ℕ) → left ≡ right → IsNumber left a → IsNumber right b → a ≡ b
-same_number left right a b same is_a is_b = sym is_a.2 ∙ (ap value_of_digits same ∙ is_b.2)
+one_role : SpellsOne IsRole
+one_role word a b is_a is_b =
+    let number = one_number word (role_number a) (role_number b) is_a is_b in
+    let same : Some a ≡ Some b = sym (role_back a) ∙ (ap role_of number ∙ role_back b) in
+    cc
+
+-- a full stop ends the digits before it
+same_parts : (a b x y : List ℕ) → list_all is_digit a ≡ true → list_all is_digit b ≡ true → a ++ (46 ∷ x) ≡ b ++ (46 ∷ y) → (a ≡ b) × (x ≡ y)
+same_parts [] [] x y is_a is_b same = (refl, cc)
+same_parts [] (d ∷ b) x y is_a is_b same =
+    let dot : d ≡ 46 = cc in
+    absurd (false≢true (ap is_digit (sym dot) ∙ (and_parts (is_digit d) (list_all is_digit b) is_b).0))
+same_parts (d ∷ a) [] x y is_a is_b same =
+    let dot : d ≡ 46 = cc in
+    absurd (false≢true (ap is_digit (sym dot) ∙ (and_parts (is_digit d) (list_all is_digit a) is_a).0))
+same_parts (d ∷ a) (e ∷ b) x y is_a is_b same =
+    let head : d ≡ e = cc in
+    let rest : a ++ (46 ∷ x) ≡ b ++ (46 ∷ y) = cc in
+    let parts = same_parts a b x y (and_parts (is_digit d) (list_all is_digit a) is_a).1 (and_parts (is_digit e) (list_all is_digit b) is_b).1 rest in
+    let front : a ≡ b = parts.0 in
+    (cc, parts.1)
+
+one_queue : SpellsOne IsQueue
+one_queue word p q is_p is_q =
+    let parts = same_parts is_p.0 is_q.0 is_p.1 is_q.1 is_p.3.0.1 is_q.3.0.1 (sym is_p.2 ∙ is_q.2) in
+    let P : List ℕ → Type 0 = λ w. IsUser w q.user in
+    let Q : List ℕ → Type 0 = λ w. IsId w q.number in
+    let owner : p.user ≡ q.user = one_user is_p.0 p.user q.user is_p.3 (subst P (sym parts.0) is_q.3) in
+    let count : p.number ≡ q.number = one_id is_p.1 p.number q.number is_p.4 (subst Q (sym parts.1) is_q.4) in
+    let salt : p.salt ≡ q.salt = is_p.5 ∙ sym is_q.5 in
+    λ i. record { user = owner i; number = count i; salt = salt i }
 
 no_minus : (first : ℕ) (rest : List ℕ) → first ≡ 45 → list_all is_digit (first ∷ rest) ≡ true → ⊥
 no_minus first rest minus each =
     false≢true (ap is_digit (sym minus) ∙ (and_parts (is_digit first) (list_all is_digit rest) each).0)
 
-same_integer : (word : List ℕ) (a b : ℤ) → IsInteger word a → IsInteger word b → a ≡ b
-same_integer [] a b is_a is_b = absurd is_a
-same_integer (first ∷ rest) a b (inl is_a) (inl is_b) =
-    is_a.2 ∙ (ap pos (same_number (first ∷ rest) (first ∷ rest) is_a.0 is_b.0 refl is_a.1 is_b.1) ∙ sym is_b.2)
-same_integer (first ∷ rest) a b (inl is_a) (inr is_b) = absurd (no_minus first rest is_b.1 is_a.1.1)
-same_integer (first ∷ rest) a b (inr is_a) (inl is_b) = absurd (no_minus first rest is_a.1 is_b.1.1)
-same_integer (first ∷ rest) a b (inr is_a) (inr is_b) =
-    is_a.3 ∙ (ap (λ k. neg_ℤ (pos k)) (same_number rest rest is_a.0 is_b.0 refl is_a.2 is_b.2) ∙ sym is_b.3)
+one_integer : SpellsOne IsInteger
+one_integer [] a b is_a is_b = absurd is_a
+one_integer (first ∷ rest) a b (inl is_a) (inl is_b) =
+    is_a.2 ∙ (ap pos (one_number (first ∷ rest) is_a.0 is_b.0 is_a.1 is_b.1) ∙ sym is_b.2)
+one_integer (first ∷ rest) a b (inl is_a) (inr is_b) = absurd (no_minus first rest is_b.1 is_a.1.1)
+one_integer (first ∷ rest) a b (inr is_a) (inl is_b) = absurd (no_minus first rest is_a.1 is_b.1.1)
+one_integer (first ∷ rest) a b (inr is_a) (inr is_b) =
+    is_a.3 ∙ (ap (λ k. neg_ℤ (pos k)) (one_number rest is_a.0 is_b.0 is_a.2 is_b.2) ∙ sym is_b.3)
 
-same_integers : (left right : List ℕ) (a b : ℤ) → left ≡ right → IsInteger left a → IsInteger right b → a ≡ b
-same_integers left right a b same is_a is_b =
-    let P : List ℕ → Type 0 = λ word. IsInteger word b in
-    same_integer left a b is_a (subst P (sym same) is_b)
+one_event_number : SpellsOne IsEventNumber
+one_event_number word a b is_a is_b = one_integer word a b is_a.0 is_b.0
 
--- the words of two commands that add a user give one command
-same_add : (words : List (List ℕ)) (left right : UserId) (e f m n k l : List ℕ) → WordsSpell words (Command left (UserAdd e m k)) → WordsSpell words (Command right (UserAdd f n l)) → Command left (UserAdd e m k) ≡ Command right (UserAdd f n l)
-same_add words left right e f m n k l is_a is_b =
-    let actor : left ≡ right = is_a.1 ∙ sym is_b.1 in
-    let email : e ≡ f = same_word words _ _ 2 is_a.0 is_b.0 in
-    let name : m ≡ n = same_word words _ _ 3 is_a.0 is_b.0 in
-    let key : k ≡ l = same_word words _ _ 5 is_a.0 is_b.0 in
-    λ i. Command (actor i) (UserAdd (email i) (name i) (key i))
+one_name : {A : Type 0} (values : List A) (name_of : A → List ℕ) → SpellsOne (IsNameAmong values name_of)
+one_name {A} values name_of word a b is_a is_b =
+    let same : Some a ≡ Some b = sym is_a ∙ is_b in
+    cc
 
--- the words of two commands that rename a user give one command
-same_update : (words : List (List ℕ)) (a b u v : UserId) (m n : List ℕ) → WordsSpell words (Command a (UserUpdate u m)) → WordsSpell words (Command b (UserUpdate v n)) → Command a (UserUpdate u m) ≡ Command b (UserUpdate v n)
-same_update words a b u v m n is_a is_b =
-    let number : a.0 ≡ b.0 = same_number is_a.0 is_b.0 a.0 b.0 (same_word words _ _ 1 is_a.2 is_b.2) is_a.3 is_b.3 in
-    let actor : a ≡ b = λ i. record { 0 = number i } in
-    let user : u ≡ v = is_a.5 ∙ (actor ∙ sym is_b.5) in
-    let name : m ≡ n = same_word words _ _ 3 is_a.2 is_b.2 in
-    λ i. Command (actor i) (UserUpdate (user i) (name i))
+one_field : SpellsOne IsNameField
+one_field word a b is_a is_b = let same : Some a ≡ Some b = sym is_a ∙ is_b in cc
 
--- the words of two polls give one poll
-same_poll : (words : List (List ℕ)) (u v : UserId) (q r : QueueId) (a b : ℤ) → WordsSpell words (Poll u q a) → WordsSpell words (Poll v r b) → Poll u q a ≡ Poll v r b
-same_poll words u v q r a b is_a is_b =
-    let user : u ≡ v = is_a.3 ∙ sym is_b.3 in
-    let owner : q.user ≡ r.user = is_a.4 ∙ sym is_b.4 in
-    let salt : q.salt ≡ r.salt = is_a.5 ∙ sym is_b.5 in
-    let digits : is_a.0 ≡ is_b.0 = ap (λ word. tail (tail word)) (same_word words _ _ 2 is_a.2 is_b.2) in
-    let count : q.number ≡ r.number = same_number is_a.0 is_b.0 q.number r.number digits is_a.6 is_b.6 in
-    let after : a ≡ b = same_integers is_a.1 is_b.1 a b (same_word words _ _ 3 is_a.2 is_b.2) is_a.8 is_b.8 in
-    λ i. Poll (user i) (record { user = owner i; number = count i; salt = salt i }) (after i)
+one_privacy : SpellsOne IsPrivacy
+one_privacy word a b is_a is_b = let same : Some a ≡ Some b = sym is_a ∙ is_b in cc
 
-same_command : (words : List (List ℕ)) (left right : UserId) (x y : Change) → WordsSpell words (Command left x) → WordsSpell words (Command right y) → shape_of (Command left x) ≡ shape_of (Command right y) → Command left x ≡ Command right y
-same_command words left right (UserAdd e m k) (UserAdd f n l) is_a is_b same = same_add words left right e f m n k l is_a is_b
-same_command words left right (UserAdd e m k) (UserUpdate v n) is_a is_b same = absurd (omega arith)
-same_command words left right (UserUpdate u m) (UserAdd f n l) is_a is_b same = absurd (omega arith)
-same_command words left right (UserUpdate u m) (UserUpdate v n) is_a is_b same = same_update words left right u v m n is_a is_b
+one_truth : SpellsOne IsTruth
+one_truth word a b is_a is_b = let same : Some a ≡ Some b = sym is_a ∙ is_b in cc
 
-change_shape : (actor : UserId) (change : Change) → 13 < shape_of (Command actor change)
-change_shape actor (UserAdd email full_name key) = omega arith
-change_shape actor (UserUpdate user full_name) = omega arith
+one_text : SpellsOne IsText
+one_text word a b (inl is_a) (inl is_b) = is_a.1 ∙ sym is_b.1
+one_text word a b (inl is_a) (inr is_b) =
+    let none : None ≡ Some b = sym decoded_none ∙ (ap decoded (sym is_a.0) ∙ is_b.1) in absurd (cc)
+one_text word a b (inr is_a) (inl is_b) =
+    let none : None ≡ Some a = sym decoded_none ∙ (ap decoded (sym is_b.0) ∙ is_a.1) in absurd (cc)
+one_text word a b (inr is_a) (inr is_b) =
+    let same : Some a ≡ Some b = sym is_a.1 ∙ is_b.1 in cc
 
-same_step : (words : List (List ℕ)) (a b : Step) → WordsSpell words a → WordsSpell words b → shape_of a ≡ shape_of b → a ≡ b
-same_step words (Command left x) (Command right y) is_a is_b same = same_command words left right x y is_a is_b same
-same_step words (Command left x) _ is_a is_b same = absurd (omega (arith, change_shape left x))
-same_step words _ (Command right y) is_a is_b same = absurd (omega (arith, change_shape right y))
-same_step words NoticeAll NoticeAll is_a is_b same = refl
-same_step words (Push a) (Push b) is_a is_b same = ap Push (is_a.1 ∙ sym is_b.1)
-same_step words (Register a) (Register b) is_a is_b same = ap Register (is_a.1 ∙ sym is_b.1)
-same_step words (Poll u q a) (Poll v r b) is_a is_b same = same_poll words u v q r a b is_a is_b
-same_step words _ _ is_a is_b same = absurd (omega arith)
+pub kind_back : (k : EventKind) → find (λ other. bytes_eq (kind_name other) (kind_name k)) kinds ≡ Some k
+kind_back kind.Realm = refl
+kind_back kind.RealmUser = refl
+kind_back kind.Stream = refl
+kind_back kind.Subscription = refl
+kind_back kind.Message = refl
+kind_back kind.MessagesRestored = refl
+kind_back kind.UpdateMessage = refl
+kind_back kind.UpdateMessageFlags = refl
+kind_back kind.DeleteMessage = refl
+kind_back kind.Reaction = refl
+kind_back kind.Heartbeat = refl
+
+same_kind : (a b : EventKind) → kind_name a ≡ kind_name b → a ≡ b
+same_kind a b named =
+    let same : Some a ≡ Some b = sym (kind_back a) ∙ (ap (λ name. find (λ other. bytes_eq (kind_name other) name) kinds) named ∙ kind_back b) in
+    cc
+
+same_kinds : (a b : List EventKind) → map kind_name a ≡ map kind_name b → a ≡ b
+same_kinds [] [] same = refl
+same_kinds [] (k ∷ b) same = absurd (cc)
+same_kinds (k ∷ a) [] same = absurd (cc)
+same_kinds (k ∷ a) (l ∷ b) same =
+    let first : kind_name k ≡ kind_name l = cc in
+    let others : map kind_name a ≡ map kind_name b = cc in
+    let head = same_kind k l first in
+    let rest = same_kinds a b others in
+    λ i. head i ∷ rest i
+
+kind_is_long : (k : EventKind) → 2 ≤ length (kind_name k)
+kind_is_long kind.Realm = omega arith
+kind_is_long kind.RealmUser = omega arith
+kind_is_long kind.Stream = omega arith
+kind_is_long kind.Subscription = omega arith
+kind_is_long kind.Message = omega arith
+kind_is_long kind.MessagesRestored = omega arith
+kind_is_long kind.UpdateMessage = omega arith
+kind_is_long kind.UpdateMessageFlags = omega arith
+kind_is_long kind.DeleteMessage = omega arith
+kind_is_long kind.Reaction = omega arith
+kind_is_long kind.Heartbeat = omega arith
+
+-- one byte alone is no list of names
+pub no_kinds : (byte : ℕ) (names : List EventKind) → (byte ∷ []) ∷ [] ≡ map kind_name names → ⊥
+no_kinds byte [] same = absurd (cc)
+no_kinds byte (k ∷ rest) same =
+    let name : byte ∷ [] ≡ kind_name k = cc in
+    omega (arith, ap length name, kind_is_long k)
+
+abbrev first_byte : List ℕ → ℕ
+first_byte [] = 0
+first_byte (byte ∷ bytes) = byte
+
+one_types : SpellsOne IsTypes
+one_types word types.All types.All is_a is_b = refl
+one_types word types.All (types.Only b) is_a (inl is_b) = absurd (omega (arith, ap first_byte (sym is_a ∙ is_b.0)))
+one_types word types.All (types.Only b) is_a (inr is_b) = absurd (no_kinds 42 b (ap parts_of (sym is_a) ∙ is_b))
+one_types word (types.Only a) types.All (inl is_a) is_b = absurd (omega (arith, ap first_byte (sym is_b ∙ is_a.0)))
+one_types word (types.Only a) types.All (inr is_a) is_b = absurd (no_kinds 42 a (ap parts_of (sym is_b) ∙ is_a))
+one_types word (types.Only a) (types.Only b) (inl is_a) (inl is_b) = ap types.Only (is_a.1 ∙ sym is_b.1)
+one_types word (types.Only a) (types.Only b) (inl is_a) (inr is_b) = absurd (no_kinds 45 b (ap parts_of (sym is_a.0) ∙ is_b))
+one_types word (types.Only a) (types.Only b) (inr is_a) (inl is_b) = absurd (no_kinds 45 a (ap parts_of (sym is_b.0) ∙ is_a))
+one_types word (types.Only a) (types.Only b) (inr is_a) (inr is_b) = ap types.Only (same_kinds a b (sym is_a ∙ is_b))
+
+-- a word that is one of these bytes is no list of names
+no_names : (special word : List ℕ) → list_all is_fetch_name (parts_of special) ≡ false → word ≡ special → list_all is_fetch_name (parts_of word) ≡ true → ⊥
+no_names special word none is each =
+    false≢true (sym none ∙ (ap (λ w. list_all is_fetch_name (parts_of w)) (sym is) ∙ each))
+
+one_fetch : (meant : Types) → SpellsOne (IsFetch meant)
+one_fetch meant word a b (inl x) (inl y) = x.1 ∙ sym y.1
+one_fetch meant word a b (inl x) (inr (inl y)) = absurd (omega (arith, ap first_byte (sym x.0 ∙ y.0)))
+one_fetch meant word a b (inl x) (inr (inr (inl y))) = absurd (omega (arith, ap first_byte (sym x.0 ∙ y.0)))
+one_fetch meant word a b (inl x) (inr (inr (inr y))) = absurd (no_names (codes "=") word refl x.0 y.0)
+one_fetch meant word a b (inr (inl x)) (inl y) = absurd (omega (arith, ap first_byte (sym x.0 ∙ y.0)))
+one_fetch meant word a b (inr (inl x)) (inr (inl y)) = x.1 ∙ sym y.1
+one_fetch meant word a b (inr (inl x)) (inr (inr (inl y))) = absurd (omega (arith, ap first_byte (sym x.0 ∙ y.0)))
+one_fetch meant word a b (inr (inl x)) (inr (inr (inr y))) = absurd (no_names (codes "*") word refl x.0 y.0)
+one_fetch meant word a b (inr (inr (inl x))) (inl y) = absurd (omega (arith, ap first_byte (sym x.0 ∙ y.0)))
+one_fetch meant word a b (inr (inr (inl x))) (inr (inl y)) = absurd (omega (arith, ap first_byte (sym x.0 ∙ y.0)))
+one_fetch meant word a b (inr (inr (inl x))) (inr (inr (inl y))) = x.1 ∙ sym y.1
+one_fetch meant word a b (inr (inr (inl x))) (inr (inr (inr y))) = absurd (no_names (codes "-") word refl x.0 y.0)
+one_fetch meant word a b (inr (inr (inr x))) (inl y) = absurd (no_names (codes "=") word refl y.0 x.0)
+one_fetch meant word a b (inr (inr (inr x))) (inr (inl y)) = absurd (no_names (codes "*") word refl y.0 x.0)
+one_fetch meant word a b (inr (inr (inr x))) (inr (inr (inl y))) = absurd (no_names (codes "-") word refl y.0 x.0)
+one_fetch meant word a b (inr (inr (inr x))) (inr (inr (inr y))) = x.1 ∙ sym y.1
+
+one_value : (property : SubName) → SpellsOne (ValueSpells property)
+one_value sub.Color word a b is_a is_b = is_a.2 ∙ (ap value.Color (one_text word is_a.0 is_b.0 is_a.1 is_b.1) ∙ sym is_b.2)
+one_value sub.IsMuted word a b is_a is_b = is_a.2 ∙ (ap value.IsMuted (one_truth word is_a.0 is_b.0 is_a.1 is_b.1) ∙ sym is_b.2)
+one_value sub.PinToTop word a b is_a is_b = is_a.2 ∙ (ap value.PinToTop (one_truth word is_a.0 is_b.0 is_a.1 is_b.1) ∙ sym is_b.2)
+
+one_sub_property : (words : List (List ℕ)) (a b : Change) → SubPropertySpells words a → SubPropertySpells words b → a ≡ b
+one_sub_property [] a b is_a is_b = absurd is_a
+one_sub_property (u ∷ []) a b is_a is_b = absurd is_a
+one_sub_property (u ∷ v ∷ []) a b is_a is_b = absurd is_a
+one_sub_property (u ∷ v ∷ w ∷ []) a b is_a is_b =
+    let stream = one_stream u is_a.0 is_b.0 is_a.3 is_b.3 in
+    let property : is_a.1 ≡ is_b.1 = one_name sub_properties sub_name v is_a.1 is_b.1 is_a.4 is_b.4 in
+    let P : SubName → Type 0 = λ name. ValueSpells name w is_b.2 in
+    let field = one_value is_a.1 w is_a.2 is_b.2 is_a.5 (subst P (sym property) is_b.5) in
+    is_a.6 ∙ ((λ i. Streams (SubProperty (stream i) (field i))) ∙ sym is_b.6)
+one_sub_property (u ∷ v ∷ w ∷ x ∷ rest) a b is_a is_b = absurd is_a
+
+one_change : (name : CommandName) (words : List (List ℕ)) (a b : Change) → ArgumentsSpell name words a → ArgumentsSpell name words b → a ≡ b
+one_change command.RealmUpdate = two_whole IsNameField IsText _ one_field one_text
+one_change command.UserAdd = four_whole IsText IsText IsRole IsText _ one_text one_text one_role one_text
+one_change command.UserUpdate = two_whole IsUser IsText _ one_user one_text
+one_change command.UserRole = two_whole IsUser IsRole _ one_user one_role
+one_change command.UserDeactivate = one_whole IsUser _ one_user
+one_change command.UserReactivate = one_whole IsUser _ one_user
+one_change command.StreamCreate = three_whole IsText IsText IsPrivacy _ one_text one_text one_privacy
+one_change command.StreamUpdate = three_whole IsStream IsNameField IsText _ one_stream one_field one_text
+one_change command.StreamPrivacy = two_whole IsStream IsPrivacy _ one_stream one_privacy
+one_change command.StreamArchive = one_whole IsStream _ one_stream
+one_change command.Subscribe = two_whole IsStream IsUser _ one_stream one_user
+one_change command.Unsubscribe = two_whole IsStream IsUser _ one_stream one_user
+one_change command.SubProperty = one_sub_property
+
+one_command : (name : CommandName) (words : List (List ℕ)) (a b : Step) → CommandSpells name words a → CommandSpells name words b → a ≡ b
+one_command name [] a b is_a is_b = absurd is_a
+one_command name (first ∷ arguments) a b is_a is_b =
+    let actor = one_user first is_a.0 is_b.0 is_a.2 is_b.2 in
+    let change = one_change name arguments is_a.1 is_b.1 is_a.3 is_b.3 in
+    is_a.4 ∙ ((λ i. Command (actor i) (change i)) ∙ sym is_b.4)
+
+one_register : (words : List (List ℕ)) (a b : Step) → RegisterSpells words a → RegisterSpells words b → a ≡ b
+one_register [] a b is_a is_b = absurd is_a
+one_register (u ∷ []) a b is_a is_b = absurd is_a
+one_register (u ∷ v ∷ []) a b is_a is_b = absurd is_a
+one_register (u ∷ v ∷ w ∷ []) a b is_a is_b =
+    let user = one_user u is_a.0 is_b.0 is_a.3 is_b.3 in
+    let meant : is_a.1 ≡ is_b.1 = one_types v is_a.1 is_b.1 is_a.4 is_b.4 in
+    let P : Types → Type 0 = λ sent. IsFetch sent w is_b.2 in
+    let asked = one_fetch is_a.1 w is_a.2 is_b.2 is_a.5 (subst P (sym meant) is_b.5) in
+    is_a.6 ∙ ((λ i. Register (user i) (meant i) (asked i)) ∙ sym is_b.6)
+one_register (u ∷ v ∷ w ∷ x ∷ rest) a b is_a is_b = absurd is_a
+
+one_rest : (shards : ℕ) (name : LineName) (words : List (List ℕ)) (a b : Step) → RestSpells shards name words a → RestSpells shards name words b → a ≡ b
+one_rest shards (line.Command name) words a b is_a is_b = one_command name words a b is_a is_b
+one_rest shards line.Notice words a b is_a is_b = is_a.1 ∙ sym is_b.1
+one_rest shards line.Push words a b is_a is_b = one_whole (IsShard shards) _ (one_shard shards) words a b is_a is_b
+one_rest shards line.Register words a b is_a is_b = one_register words a b is_a is_b
+one_rest shards line.Poll words a b is_a is_b = three_whole IsUser IsQueue IsEventNumber _ one_user one_queue one_event_number words a b is_a is_b
+one_rest shards line.View words a b is_a is_b = one_whole IsUser _ one_user words a b is_a is_b
+
+one_words : (shards : ℕ) (words : List (List ℕ)) (a b : Step) → WordsSpell shards words a → WordsSpell shards words b → a ≡ b
+one_words shards [] a b is_a is_b = absurd is_a
+one_words shards (first ∷ rest) a b is_a is_b =
+    let same : Some is_a.0 ≡ Some is_b.0 = sym is_a.1 ∙ is_b.1 in
+    let name : is_a.0 ≡ is_b.0 = cc in
+    let P : LineName → Type 0 = λ n. RestSpells shards n rest b in
+    one_rest shards is_a.0 rest a b is_a.2 (subst P (sym name) is_b.2)
 
 -- a line spells one step at most
-pub one_step : (line : List ℕ) (a b : Step) → Spells line a → Spells line b → a ≡ b
-one_step line a b is_a is_b =
-    let words = words_of line in
-    let spell_a = words_spell line a is_a in
-    let spell_b = words_spell line b is_b in
-    same_step words a b spell_a spell_b (same_shape words a b spell_a spell_b)
+pub one_step : (shards : ℕ) (line : List ℕ) (a b : Step) → Spells shards line a → Spells shards line b → a ≡ b
+one_step shards line a b is_a is_b = one_words shards (words_of line) a b is_a is_b
+
+sub_property_words : (words : List (List ℕ)) (change : Change) → SubPropertySpells words change → length words ≡ 3
+sub_property_words [] change is = absurd is
+sub_property_words (u ∷ []) change is = absurd is
+sub_property_words (u ∷ v ∷ []) change is = absurd is
+sub_property_words (u ∷ v ∷ w ∷ []) change is = refl
+sub_property_words (u ∷ v ∷ w ∷ x ∷ rest) change is = absurd is
+
+register_words : (words : List (List ℕ)) (step : Step) → RegisterSpells words step → length words ≡ 3
+register_words [] step is = absurd is
+register_words (u ∷ []) step is = absurd is
+register_words (u ∷ v ∷ []) step is = absurd is
+register_words (u ∷ v ∷ w ∷ []) step is = refl
+register_words (u ∷ v ∷ w ∷ x ∷ rest) step is = absurd is
+
+change_words : (name : CommandName) (words : List (List ℕ)) (change : Change) → ArgumentsSpell name words change → length words ≤ 4
+change_words command.RealmUpdate words change is = omega (arith, two_words IsNameField IsText _ words change is)
+change_words command.UserAdd words change is = omega (arith, four_words IsText IsText IsRole IsText _ words change is)
+change_words command.UserUpdate words change is = omega (arith, two_words IsUser IsText _ words change is)
+change_words command.UserRole words change is = omega (arith, two_words IsUser IsRole _ words change is)
+change_words command.UserDeactivate words change is = omega (arith, one_word IsUser _ words change is)
+change_words command.UserReactivate words change is = omega (arith, one_word IsUser _ words change is)
+change_words command.StreamCreate words change is = omega (arith, three_words IsText IsText IsPrivacy _ words change is)
+change_words command.StreamUpdate words change is = omega (arith, three_words IsStream IsNameField IsText _ words change is)
+change_words command.StreamPrivacy words change is = omega (arith, two_words IsStream IsPrivacy _ words change is)
+change_words command.StreamArchive words change is = omega (arith, one_word IsStream _ words change is)
+change_words command.Subscribe words change is = omega (arith, two_words IsStream IsUser _ words change is)
+change_words command.Unsubscribe words change is = omega (arith, two_words IsStream IsUser _ words change is)
+change_words command.SubProperty words change is = omega (arith, sub_property_words words change is)
+
+rest_words : (shards : ℕ) (name : LineName) (words : List (List ℕ)) (step : Step) → RestSpells shards name words step → length words ≤ 5
+rest_words shards (line.Command name) [] step is = absurd is
+rest_words shards (line.Command name) (first ∷ arguments) step is = omega (arith, change_words name arguments is.1 is.3)
+rest_words shards line.Notice words step is = omega (arith, ap length is.0)
+rest_words shards line.Push words step is = omega (arith, one_word (IsShard shards) _ words step is)
+rest_words shards line.Register words step is = omega (arith, register_words words step is)
+rest_words shards line.Poll words step is = omega (arith, three_words IsUser IsQueue IsEventNumber _ words step is)
+rest_words shards line.View words step is = omega (arith, one_word IsUser _ words step is)
+
+line_words : (shards : ℕ) (words : List (List ℕ)) (step : Step) → WordsSpell shards words step → length words ≤ 6
+line_words shards [] step is = absurd is
+line_words shards (first ∷ rest) step is = omega (arith, rest_words shards is.0 rest step is.2)
+
+-- more words than any line has spell no step
+pub too_many : (shards : ℕ) (words : List (List ℕ)) → 6 < length words → ReadsWords shards words (Err NotAStep)
+too_many shards words many = record {
+  step = tt;
+  not_a_step = λ _ step is. absurd (omega (arith, line_words shards words step is));
+  no_memory = λ other. cc;
+}
+
+hash_word : (shards : ℕ) (parts : List (List ℕ)) (step : Step) → WordsSpell shards (onto_first 35 parts) step → ⊥
+hash_word shards [] step is = let none : None ≡ Some is.0 = is.1 in absurd (cc)
+hash_word shards (part ∷ parts) step is = let none : None ≡ Some is.0 = is.1 in absurd (cc)
+
+-- a line that is passed over spells no step
+pub passed_over : (shards : ℕ) (line : List ℕ) (step : Step) → IsPassedOver line → Spells shards line step → ⊥
+passed_over shards [] step passed is = let none : None ≡ Some is.0 = is.1 in absurd (cc)
+passed_over shards (first ∷ rest) step passed is =
+    let P : ℕ → Type 0 = λ byte. Spells shards (byte ∷ rest) step in
+    hash_word shards (slice_split (λ byte. byte == 32) rest) step (subst P passed is)

@@ -1,85 +1,143 @@
 -- The grammar of a script's lines: which step a line spells.
-use Rattle.std.specs.Prelude.{◌≡◌, ℕ, ◌+◌, ◌-◌, ◌*◌, ◌≤◌, ◌<◌, ◌^◌, Bool, true, ◌&&◌, ◌||◌, ◌==◌, nat_le, List, [], ◌∷◌, ◌++◌, length, fold, codes, ℤ, pos, neg_ℤ, FitsSigned, ◌⊎◌}
-use Rattle.std.specs.Int.{w64}
-use Rattle.std.specs.List.{list_all, join_with_byte}
+use Rattle.std.specs.Prelude.{◌≡◌, ℕ, Bool, false, ◌==◌, List, [], ◌∷◌, find, bytes_eq, Some}
+use Rattle.std.specs.List.{slice_split}
 use Rattle.ev_base.specs.declared.ids.UserId.{UserId}
-use Rattle.zw_lines.specs.declared.people.Command.TheVariants.{UserAdd, UserUpdate}
+use Rattle.ev_base.specs.declared.ids.StreamId.{StreamId}
+use Rattle.ev_base.specs.declared.kinds.Privacy.{Privacy}
+use Rattle.ev_types.specs.declared.kind.Types.{Types}
+use Rattle.ev_types.specs.declared.section.Section.{Section}
+use Rattle.zr_types.specs.declared.command.NameField.{NameField}
+use Rattle.zr_types.specs.declared.command.SubField.{SubField}
+use Rattle.zr_types.specs.declared.command.SubField.TheVariants as value
+use Rattle.zr_types.specs.declared.command.Command.{Command as Change}
+use Rattle.zr_types.specs.declared.command.Command.TheVariants.{People, Streams}
+use Rattle.zr_types.specs.declared.command.PeopleCommand.TheVariants.{RealmUpdate, UserAdd, UserUpdate, UserRole, UserDeactivate, UserReactivate}
+use Rattle.zr_types.specs.declared.command.StreamCommand.TheVariants.{Create, Update, SetPrivacy, Archive, Subscribe, Unsubscribe, SubProperty}
+use Rattle.zs_script.specs.declared.names.CommandName.{CommandName}
+use Rattle.zs_script.specs.declared.names.CommandName.TheVariants as command
+use Rattle.zs_script.specs.declared.names.LineName.{LineName}
+use Rattle.zs_script.specs.declared.names.LineName.TheVariants as line
+use Rattle.zs_script.specs.declared.names.SubProperty.{SubProperty as SubName}
+use Rattle.zs_script.specs.declared.names.SubProperty.TheVariants as sub
 use Rattle.zs_script.specs.declared.step.Step.{Step}
-use Rattle.zs_script.specs.declared.step.Step.TheVariants.{Command, NoticeAll, Push, Register, Poll}
+use Rattle.zs_script.specs.declared.step.Step.TheVariants.{Command, NoticeAll, Push, Register, Poll, View}
+use Rattle.zs_script.specs.Lists.{IsTypes, IsFetch}
+use Rattle.zs_script.specs.Names.{line_name, lines, sub_name, sub_properties, field_name, name_fields, privacy_name, privacies, truth_name, truth_values}
+use Rattle.zs_script.specs.Numbers.{IsUser, IsStream, IsShard, IsRole, IsQueue, IsEventNumber}
+use Rattle.zs_script.specs.Texts.{IsText}
 
 -- an empty line and one that begins with # are passed over
 abbrev pub IsPassedOver : List ℕ → Type 0
 IsPassedOver [] = Unit {0}
 IsPassedOver (first ∷ rest) = first ≡ 35
 
--- words, each behind a space but the first
-abbrev pub spaced : List (List ℕ) → List ℕ
-spaced words = join_with_byte 32 words
+-- the words of a line: what stands between its spaces
+abbrev pub words_of : List ℕ → List (List ℕ)
+words_of line = slice_split (λ byte. byte == 32) line
 
--- a byte from this one to that one
-abbrev pub is_between : ℕ → ℕ → ℕ → Bool
-is_between low high byte = nat_le low byte && nat_le byte high
+-- the word is the name of this one of these values
+abbrev pub IsNameAmong : {A : Type 0} → List A → (A → List ℕ) → List ℕ → A → Type 0
+IsNameAmong values name_of word value = find (λ other. bytes_eq (name_of other) word) values ≡ Some value
 
-abbrev pub is_digit : ℕ → Bool
-is_digit byte = is_between 48 57 byte
+abbrev pub IsLineName : List ℕ → LineName → Type 0
+IsLineName = IsNameAmong lines line_name
 
--- an ASCII letter or digit
-abbrev pub is_alphanumeric : ℕ → Bool
-is_alphanumeric byte = is_digit byte || (is_between 65 90 byte || is_between 97 122 byte)
+abbrev pub IsNameField : List ℕ → NameField → Type 0
+IsNameField = IsNameAmong name_fields field_name
 
--- a byte of an email or a name: an ASCII letter or digit, @ or a full stop
-abbrev pub is_address_byte : ℕ → Bool
-is_address_byte byte = is_alphanumeric byte || (byte == 64 || byte == 46)
+abbrev pub IsPrivacy : List ℕ → Privacy → Type 0
+IsPrivacy = IsNameAmong privacies privacy_name
 
--- one to sixty bytes that pass
-abbrev pub IsWordOf : (ℕ → Bool) → List ℕ → Type 0
-IsWordOf passes word = (1 ≤ length word) × (length word ≤ 60) × (list_all passes word ≡ true)
+abbrev pub IsTruth : List ℕ → Bool → Type 0
+IsTruth = IsNameAmong truth_values truth_name
 
--- the value of decimal digits
-abbrev pub value_of_digits : List ℕ → ℕ
-value_of_digits digits = fold (λ value digit. value * 10 + (digit - 48)) 0 digits
+-- one word spells a value, of which the whole is made; two words; three; four
+abbrev pub One : {A W : Type 0} → (List ℕ → A → Type 0) → (A → W) → List (List ℕ) → W → Type 0
+One first make (a ∷ []) whole = (x : _) × first a x × (whole ≡ make x)
+One first make words whole = ⊥
 
--- a number: one or more decimal digits
-abbrev pub IsNumber : List ℕ → ℕ → Type 0
-IsNumber word number = (1 ≤ length word) × (list_all is_digit word ≡ true) × (value_of_digits word ≡ number)
+abbrev pub Two : {A B W : Type 0} → (List ℕ → A → Type 0) → (List ℕ → B → Type 0) → (A → B → W) → List (List ℕ) → W → Type 0
+Two first second make (a ∷ b ∷ []) whole = (x : _) × (y : _) × first a x × second b y × (whole ≡ make x y)
+Two first second make words whole = ⊥
 
--- an integer: a number, with a - before it where it is negative
-abbrev pub IsInteger : List ℕ → ℤ → Type 0
-IsInteger [] integer = ⊥
-IsInteger (first ∷ rest) integer =
-    ((number : ℕ) × IsNumber (first ∷ rest) number × (integer ≡ pos number))
-    ⊎ ((number : ℕ) × (first ≡ 45) × IsNumber rest number × (integer ≡ neg_ℤ (pos number)))
+abbrev pub Three : {A B C W : Type 0} → (List ℕ → A → Type 0) → (List ℕ → B → Type 0) → (List ℕ → C → Type 0) → (A → B → C → W) → List (List ℕ) → W → Type 0
+Three first second third make (a ∷ b ∷ c ∷ []) whole =
+    (x : _) × (y : _) × (z : _) × first a x × second b y × third c z × (whole ≡ make x y z)
+Three first second third make words whole = ⊥
 
--- the number of the only user of this grammar
-abbrev pub first_user : UserId
-first_user = record { 0 = 1 }
+abbrev pub Four : {A B C D W : Type 0} → (List ℕ → A → Type 0) → (List ℕ → B → Type 0) → (List ℕ → C → Type 0) → (List ℕ → D → Type 0) → (A → B → C → D → W) → List (List ℕ) → W → Type 0
+Four first second third fourth make (a ∷ b ∷ c ∷ d ∷ []) whole =
+    (x : _) × (y : _) × (z : _) × (u : _)
+    × first a x × second b y × third c z × fourth d u × (whole ≡ make x y z u)
+Four first second third fourth make words whole = ⊥
 
--- the words spell the step
-abbrev pub WordsSpell : List (List ℕ) → Step → Type 0
-WordsSpell words (Command actor (UserAdd email full_name key)) =
-    (words ≡ codes "user_add" ∷ codes "0" ∷ email ∷ full_name ∷ codes "100" ∷ key ∷ [])
-    × (actor ≡ record { 0 = 0 })
-    × IsWordOf is_address_byte email × IsWordOf is_address_byte full_name × IsWordOf is_alphanumeric key
-WordsSpell words (Command actor (UserUpdate user full_name)) =
-    (first second : List ℕ)
-    × (words ≡ codes "user_update" ∷ first ∷ second ∷ full_name ∷ [])
-    × IsNumber first actor.0 × IsNumber second user.0 × (user ≡ actor) × (actor.0 < 2 ^ 32)
-    × IsWordOf is_address_byte full_name
-WordsSpell words NoticeAll = words ≡ codes "notice" ∷ []
-WordsSpell words (Push shard) = (words ≡ codes "push" ∷ codes "0" ∷ []) × (shard ≡ 0)
-WordsSpell words (Register user) =
-    (words ≡ codes "register" ∷ codes "1" ∷ codes "*" ∷ codes "realm_user" ∷ []) × (user ≡ first_user)
-WordsSpell words (Poll user queue after) =
-    (number last : List ℕ)
-    × (words ≡ codes "poll" ∷ codes "1" ∷ (codes "1." ++ number) ∷ last ∷ [])
-    × (user ≡ first_user) × (queue.user ≡ first_user) × (queue.salt ≡ 0)
-    × IsNumber number queue.number × (queue.number < 2 ^ 32)
-    × IsInteger last after × FitsSigned w64 after
+-- the words spell a property of a subscription with its value
+abbrev pub ValueSpells : SubName → List ℕ → SubField → Type 0
+ValueSpells sub.Color word field = (color : List ℕ) × IsText word color × (field ≡ value.Color color)
+ValueSpells sub.IsMuted word field = (muted : Bool) × IsTruth word muted × (field ≡ value.IsMuted muted)
+ValueSpells sub.PinToTop word field = (pinned : Bool) × IsTruth word pinned × (field ≡ value.PinToTop pinned)
 
--- the line spells the step: it is made of words that spell it, each behind a space but the first
-abbrev pub Spells : List ℕ → Step → Type 0
-Spells line step = (words : List (List ℕ)) × (line ≡ spaced words) × WordsSpell words step
+abbrev pub SubPropertySpells : List (List ℕ) → Change → Type 0
+SubPropertySpells (a ∷ b ∷ c ∷ []) whole =
+    (stream : StreamId) × (property : SubName) × (field : SubField)
+    × IsStream a stream × IsNameAmong sub_properties sub_name b property × ValueSpells property c field
+    × (whole ≡ Streams (SubProperty stream field))
+SubPropertySpells words whole = ⊥
+
+-- the words after the actor spell the command of this name
+abbrev pub ArgumentsSpell : CommandName → List (List ℕ) → Change → Type 0
+ArgumentsSpell command.RealmUpdate = Two IsNameField IsText (λ property value. People (RealmUpdate property value))
+ArgumentsSpell command.UserAdd = Four IsText IsText IsRole IsText (λ email full_name role key. People (UserAdd email full_name role key))
+ArgumentsSpell command.UserUpdate = Two IsUser IsText (λ user full_name. People (UserUpdate user full_name))
+ArgumentsSpell command.UserRole = Two IsUser IsRole (λ user role. People (UserRole user role))
+ArgumentsSpell command.UserDeactivate = One IsUser (λ user. People (UserDeactivate user))
+ArgumentsSpell command.UserReactivate = One IsUser (λ user. People (UserReactivate user))
+ArgumentsSpell command.StreamCreate = Three IsText IsText IsPrivacy (λ name description privacy. Streams (Create name description privacy))
+ArgumentsSpell command.StreamUpdate = Three IsStream IsNameField IsText (λ stream property value. Streams (Update stream property value))
+ArgumentsSpell command.StreamPrivacy = Two IsStream IsPrivacy (λ stream privacy. Streams (SetPrivacy stream privacy))
+ArgumentsSpell command.StreamArchive = One IsStream (λ stream. Streams (Archive stream))
+ArgumentsSpell command.Subscribe = Two IsStream IsUser (λ stream user. Streams (Subscribe stream user))
+ArgumentsSpell command.Unsubscribe = Two IsStream IsUser (λ stream user. Streams (Unsubscribe stream user))
+ArgumentsSpell command.SubProperty = SubPropertySpells
+
+-- the words after its name spell a command: the actor and the arguments
+abbrev pub CommandSpells : CommandName → List (List ℕ) → Step → Type 0
+CommandSpells name [] step = ⊥
+CommandSpells name (first ∷ arguments) step =
+    (actor : UserId) × (change : Change)
+    × IsUser first actor × ArgumentsSpell name arguments change × (step ≡ Command actor change)
+
+-- the words after its name spell a registration: the user, the types, and what is fetched
+abbrev pub RegisterSpells : List (List ℕ) → Step → Type 0
+RegisterSpells (a ∷ b ∷ c ∷ []) step =
+    (user : UserId) × (types : Types) × (asked : List Section)
+    × IsUser a user × IsTypes b types × IsFetch types c asked × (step ≡ Register user types asked)
+RegisterSpells words step = ⊥
+
+-- the words after this name spell the step, where there are these many shards
+abbrev pub RestSpells : ℕ → LineName → List (List ℕ) → Step → Type 0
+RestSpells shards (line.Command name) rest step = CommandSpells name rest step
+RestSpells shards line.Notice rest step = (rest ≡ []) × (step ≡ NoticeAll)
+RestSpells shards line.Push rest step = One (IsShard shards) Push rest step
+RestSpells shards line.Register rest step = RegisterSpells rest step
+RestSpells shards line.Poll rest step = Three IsUser IsQueue IsEventNumber (λ user queue after. Poll user queue after false) rest step
+RestSpells shards line.View rest step = One IsUser View rest step
+
+-- the words spell the step: the first is a line's name
+abbrev pub WordsSpell : ℕ → List (List ℕ) → Step → Type 0
+WordsSpell shards [] step = ⊥
+WordsSpell shards (first ∷ rest) step = (name : LineName) × IsLineName first name × RestSpells shards name rest step
+
+-- the line spells the step, where there are these many shards
+abbrev pub Spells : ℕ → List ℕ → Step → Type 0
+Spells shards line step = WordsSpell shards (words_of line) step
 
 -- the line isn't passed over and spells no step
-abbrev pub IsNoStep : List ℕ → Type 0
-IsNoStep line = (IsPassedOver line → ⊥) × ((step : Step) → Spells line step → ⊥)
+abbrev pub IsNoStep : ℕ → List ℕ → Type 0
+IsNoStep shards line = (IsPassedOver line → ⊥) × ((step : Step) → Spells shards line step → ⊥)
+
+-- a step for which memory is taken
+abbrev pub TakesMemory : Step → Type 0
+TakesMemory (Command actor change) = Unit {0}
+TakesMemory (Register user types asked) = Unit {0}
+TakesMemory step = ⊥

@@ -1,2 +1,7 @@
 pub mod Grammar
-pub mod Words
+pub mod Lists
+pub mod Names
+pub mod Numbers
+pub mod Readings
+pub mod TextParts
+pub mod Texts

@@ -1,16 +1,13 @@
 //! The reading of a script's lines.
 
-ghost use Rattle.std.specs.Prelude.{◌≡◌, ◌↔◌, List, ℕ, Err, IfOk, IsTrue, MatchOption};
-ghost use Rattle.ev_base.specs.declared.ids.UserId.{UserId};
-ghost use Rattle.zw_lines.specs.declared.people.Command.{Command};
-ghost use Rattle.zs_script.specs.Grammar.{IsNoStep, IsPassedOver, Spells};
-ghost use Rattle.zs_script.specs.Words.{ReadsWords, words_of};
+ghost use Rattle.std.specs.Prelude.{◌≡◌, ◌↔◌, ◌<◌, List, ℕ, Err, IfOk, IsTrue, MatchOption};
+ghost use Rattle.zs_script.specs.Grammar.{IsNoStep, IsPassedOver, Spells, TakesMemory, words_of};
+ghost use Rattle.zs_script.specs.Readings.{ReadsWords};
 ghost use Rattle.zs_script.specs.declared.step.Step.{Step};
 
 use crate::step::Step;
 use crate::words::{read_words, split_words};
 use std::alloc::{AllocError, Global};
-use std::str;
 
 /// Why a line is refused.
 #[derive(Clone, Copy, Debug, PartialEq, Eq)]
@@ -30,21 +27,19 @@ impl From<AllocError> for LineFault {
     }
 }
 
-/// The step that a line spells, and none for a line that is passed over: an empty one, or one that
-/// begins with `#`. The line is given without its line feed.
-pub fn read_line(alloc: Global, line: &[u8]) -> Result<Option<Step>, LineFault>
-    ensures step { IfOk result (λ read. MatchOption read (IsPassedOver line.now) (Spells line.now)) }
-    ensures not_a_step { result ≡ Err LineFault.NotAStep → IsNoStep line.now }
+/// The step that a line spells where there are these many shards, and none for a line that is passed
+/// over: an empty one, or one that begins with `#`. The line is given without its line feed.
+pub fn read_line(alloc: Global, shards: u32, line: &[u8]) -> Result<Option<Step>, LineFault>
+    ensures step { IfOk result
+        (λ read. MatchOption read (IsPassedOver line.now) (Spells shards line.now)) }
+    ensures not_a_step { result ≡ Err LineFault.NotAStep → IsNoStep shards line.now }
     ensures no_memory { result ≡ Err LineFault.NoMemory
-        → (actor : UserId) × (command : Command) × Spells line.now (Step.Command actor command) }
+        → (step : Step) × Spells shards line.now step × TakesMemory step }
 {
     if is_passed_over(line) {
         return Ok(None);
     }
-    let Ok(text) = str::from_utf8(line) else {
-        return Err(LineFault::NotAStep);
-    };
-    Ok(Some(read_step(alloc, text)?))
+    Ok(Some(read_step(alloc, shards, line)?))
 }
 
 fn is_passed_over(line: &[u8]) -> bool
@@ -56,21 +51,29 @@ fn is_passed_over(line: &[u8]) -> bool
     }
 }
 
-fn read_step(alloc: Global, text: &str) -> Result<Step, LineFault>
-    ensures { ReadsWords (words_of text.now) result }
+fn read_step(alloc: Global, shards: u32, line: &[u8]) -> Result<Step, LineFault>
+    ensures { ReadsWords shards (words_of line.now) result }
 {
-    let Some(words) = split_words(text) else {
+    let Some(words) = split_words(line) else {
         return Err(LineFault::NotAStep);
     };
-    read_words(alloc, &words)
+    read_words(alloc, shards, &words)
 }
 
 /// A line that is passed over spells no step.
 pub fn passed_over_lines_spell_none()
-    ensures { (line : List ℕ) (step : Step) → IsPassedOver line → Spells line step → ⊥ }
+    ensures { (shards : ℕ) (line : List ℕ) (step : Step)
+        → IsPassedOver line → Spells shards line step → ⊥ }
 {}
 
 /// A line spells one step at most.
 pub fn one_step_at_most()
-    ensures { (line : List ℕ) (a b : Step) → Spells line a → Spells line b → a ≡ b }
+    ensures { (shards : ℕ) (line : List ℕ) (a b : Step)
+        → Spells shards line a → Spells shards line b → a ≡ b }
+{}
+
+/// A push names a shard that is there.
+pub fn pushed_shards_are_there()
+    ensures { (shards : ℕ) (line : List ℕ) (shard : ℕ)
+        → Spells shards line (Step.Push shard) → shard < shards }
 {}

@@ -1,28 +1,43 @@
 //! The words of a line, and the step that they spell.
 
-ghost use Rattle.std.specs.Prelude.{◌≡◌, ◌<◌, ◌≤◌, ◌^◌, ◌++◌, ◌∷◌, [], ◌↔◌, ℕ, ℤ, codes, length, FitsSigned, IfErr, IfOk, IsTrue, MatchOption};
-ghost use Rattle.std.specs.Int.{w64};
-ghost use Rattle.zs_script.specs.Grammar.{IsInteger, IsNumber, IsWordOf, is_address_byte, is_alphanumeric};
-ghost use Rattle.zs_script.specs.Words.{ReadsWords, texts, words_of};
+ghost use Rattle.std.specs.Prelude.{◌≡◌, ◌<◌, List, length, IfOk, MatchOption};
+ghost use Rattle.ev_types.specs.declared.kind.Types.{Types};
+ghost use Rattle.ev_types.specs.declared.section.Section.{Section};
+ghost use Rattle.zs_script.specs.Lists.{IsFetch, IsTypes};
+ghost use Rattle.zs_script.specs.declared.step.Step.TheVariants.{Register};
+ghost use Rattle.zs_script.specs.declared.names.LineName.{LineName};
+ghost use Rattle.zs_script.specs.Grammar.{ArgumentsSpell, RestSpells, words_of};
+ghost use Rattle.zs_script.specs.Readings.{Reads, ReadsStep, ReadsWords, pointed};
 
+use crate::lists::{fetch_of, is_fetch, is_types, types_of};
+use crate::names::{CommandName, LineName, read_name};
+use crate::numbers::{read_event_number, read_queue, read_shard, read_user};
+use crate::people::{
+    read_realm_update, read_user_add, read_user_deactivate, read_user_reactivate, read_user_role,
+    read_user_update,
+};
 use crate::reading::LineFault;
 use crate::step::Step;
+use crate::streams::{
+    read_stream_archive, read_stream_create, read_stream_privacy, read_stream_update,
+    read_sub_property, read_subscribe, read_unsubscribe,
+};
 use arrayvec::ArrayVec;
-use ev_base::{PlainText, QueueId, UserId};
-use std::alloc::Global;
-use zw_lines::Command;
+use ev_base::UserId;
+use std::alloc::{AllocError, Global};
+use zr_types::Command;
 
 /// The most words that a line has.
-const MOST_WORDS: usize = 6;
+const MAX_WORDS: usize = 6;
 
-/// The words of a text that has no more than any line has.
-pub(crate) fn split_words(text: &str) -> Option<ArrayVec<&str, MOST_WORDS>>
+/// The words of a line that has no more than any line has.
+pub(crate) fn split_words(line: &[u8]) -> Option<ArrayVec<&[u8], MAX_WORDS>>
     ensures { MatchOption result
-        (6 < length (words_of text.now))
-        (λ words. texts words.items ≡ words_of text.now) }
+        (6 < length (words_of line.now))
+        (λ words. pointed words.items ≡ words_of line.now) }
 {
     let mut words = ArrayVec::new();
-    for word in text.split(' ') {
+    for word in line.split(|byte| *byte == b' ') {
         if words.try_push(word).is_err() {
             return None;
         }
@@ -31,139 +46,158 @@ pub(crate) fn split_words(text: &str) -> Option<ArrayVec<&str, MOST_WORDS>>
 }
 
 /// The step that words spell.
-pub(crate) fn read_words(alloc: Global, words: &[&str]) -> Result<Step, LineFault>
-    ensures { ReadsWords (texts words.now) result }
+pub(crate) fn read_words(alloc: Global, shards: u32, words: &[&[u8]]) -> Result<Step, LineFault>
+    ensures { ReadsWords shards (pointed words.now) result }
 {
-    match *words {
-        ["user_add", "0", email, full_name, "100", key] => {
-            read_user_add(alloc, email, full_name, key)
-        }
-        ["user_update", actor, user, full_name] => read_user_update(alloc, actor, user, full_name),
-        ["notice"] => Ok(Step::NoticeAll),
-        ["push", "0"] => Ok(Step::Push { shard: 0 }),
-        ["register", "1", "*", "realm_user"] => Ok(Step::Register { user: UserId(1) }),
-        ["poll", "1", queue, after] => read_poll(queue, after),
-        _ => Err(LineFault::NotAStep),
+    let [first, rest @ ..] = words else {
+        return Err(LineFault::NotAStep);
+    };
+    let Some(name) = read_name(*first) else {
+        return Err(LineFault::NotAStep);
+    };
+    read_rest(alloc, shards, name, rest)
+}
+
+/// The step that the words after the line's name spell.
+fn read_rest(alloc: Global, shards: u32, name: LineName, words: &[&[u8]]) -> Result<Step, LineFault>
+    ensures { ReadsStep (RestSpells shards name (pointed words.now)) result }
+{
+    match name {
+        LineName::Command(command) => read_by_actor(alloc, command, words),
+        LineName::Notice => read_notice(words),
+        LineName::Push => read_push(shards, words),
+        LineName::Register => read_register(alloc, words),
+        LineName::Poll => read_poll(words),
+        LineName::View => read_view(words),
     }
 }
 
-fn read_user_add(alloc: Global, email: &str, full_name: &str, key: &str) -> Result<Step, LineFault>
-    ensures { ReadsWords
-        (codes "user_add" ∷ codes "0" ∷ email.now ∷ full_name.now ∷ codes "100" ∷ key.now ∷ [])
-        result }
+fn read_by_actor(alloc: Global, name: CommandName, words: &[&[u8]]) -> Result<Step, LineFault>
+    ensures { ReadsStep (RestSpells 0 (LineName.Command name) (pointed words.now)) result }
 {
-    if !(is_address(email) && is_address(full_name) && is_key(key)) {
+    let [actor, arguments @ ..] = words else {
+        return Err(LineFault::NotAStep);
+    };
+    let Some(actor) = read_user(*actor) else {
+        return Err(LineFault::NotAStep);
+    };
+    Ok(Step::Command {
+        actor,
+        command: read_command(alloc, name, arguments)?,
+    })
+}
+
+/// The command of this name that its arguments spell.
+fn read_command(alloc: Global, name: CommandName, words: &[&[u8]]) -> Result<Command, LineFault>
+    ensures { Reads (ArgumentsSpell name (pointed words.now)) result }
+{
+    match name {
+        CommandName::RealmUpdate => read_realm_update(alloc, words),
+        CommandName::UserAdd => read_user_add(alloc, words),
+        CommandName::UserUpdate => read_user_update(alloc, words),
+        CommandName::UserRole => read_user_role(words),
+        CommandName::UserDeactivate => read_user_deactivate(words),
+        CommandName::UserReactivate => read_user_reactivate(words),
+        CommandName::StreamCreate => read_stream_create(alloc, words),
+        CommandName::StreamUpdate => read_stream_update(alloc, words),
+        CommandName::StreamPrivacy => read_stream_privacy(words),
+        CommandName::StreamArchive => read_stream_archive(words),
+        CommandName::Subscribe => read_subscribe(words),
+        CommandName::Unsubscribe => read_unsubscribe(words),
+        CommandName::SubProperty => read_sub_property(alloc, words),
+    }
+}
+
+fn read_notice(words: &[&[u8]]) -> Result<Step, LineFault>
+    ensures { ReadsStep (RestSpells 0 LineName.Notice (pointed words.now)) result }
+{
+    if words.is_empty() {
+        Ok(Step::NoticeAll)
+    } else {
+        Err(LineFault::NotAStep)
+    }
+}
+
+fn read_push(shards: u32, words: &[&[u8]]) -> Result<Step, LineFault>
+    ensures { ReadsStep (RestSpells shards LineName.Push (pointed words.now)) result }
+{
+    let [shard] = *words else {
+        return Err(LineFault::NotAStep);
+    };
+    let Some(shard) = read_shard(shards, shard) else {
+        return Err(LineFault::NotAStep);
+    };
+    Ok(Step::Push { shard })
+}
+
+fn read_register(alloc: Global, words: &[&[u8]]) -> Result<Step, LineFault>
+    ensures { ReadsStep (RestSpells 0 LineName.Register (pointed words.now)) result }
+{
+    let [user, types, fetch] = *words else {
+        return Err(LineFault::NotAStep);
+    };
+    let Some(user) = read_user(user) else {
+        return Err(LineFault::NotAStep);
+    };
+    if !is_types(types) {
         return Err(LineFault::NotAStep);
     }
-    Ok(Step::Command {
-        actor: UserId(0),
-        command: user_add(alloc, email, full_name, key)?,
-    })
+    if !is_fetch(fetch) {
+        return Err(LineFault::NotAStep);
+    }
+    Ok(register_step(alloc, user, types, fetch)?)
 }
 
-fn user_add(alloc: Global, email: &str, full_name: &str, key: &str) -> Result<Command, LineFault>
-    ensures ok { IfOk result
-        (λ command. command ≡ Command.UserAdd email.now full_name.now key.now) }
-    ensures err { IfErr result (λ fault. fault ≡ LineFault.NoMemory) }
-{
-    Ok(Command::UserAdd {
-        email: plain_text(alloc, email)?,
-        full_name: plain_text(alloc, full_name)?,
-        key: plain_text(alloc, key)?,
-    })
-}
-
-fn read_user_update(
+/// The registration of this user, with words for types and for what is fetched.
+fn register_step(
     alloc: Global,
-    actor: &str,
-    user: &str,
-    full_name: &str,
-) -> Result<Step, LineFault>
-    ensures { ReadsWords
-        (codes "user_update" ∷ actor.now ∷ user.now ∷ full_name.now ∷ [])
-        result }
+    user: UserId,
+    types: &[u8],
+    fetch: &[u8],
+) -> Result<Step, AllocError>
+    requires is_types { (sent : Types) × IsTypes types.now sent }
+    requires is_fetch { (asked : List Section) × IsFetch Types.All fetch.now asked }
+    ensures { IfOk result (λ step. (sent : Types) × (asked : List Section) ×
+        IsTypes types.now sent × IsFetch sent fetch.now asked × (step ≡ Register user sent asked)) }
 {
-    let (Some(actor), Some(user)) = (read_number(actor), read_number(user)) else {
-        return Err(LineFault::NotAStep);
-    };
-    if actor != user || !is_address(full_name) {
-        return Err(LineFault::NotAStep);
-    }
-    Ok(Step::Command {
-        actor: UserId(actor),
-        command: Command::UserUpdate {
-            user: UserId(user),
-            full_name: plain_text(alloc, full_name)?,
-        },
+    Ok(Step::Register {
+        user,
+        types: types_of(alloc, types)?,
+        asked: fetch_of(alloc, types, fetch)?,
     })
 }
 
-fn read_poll(queue: &str, after: &str) -> Result<Step, LineFault>
-    ensures { ReadsWords (codes "poll" ∷ codes "1" ∷ queue.now ∷ after.now ∷ []) result }
+fn read_poll(words: &[&[u8]]) -> Result<Step, LineFault>
+    ensures { ReadsStep (RestSpells 0 LineName.Poll (pointed words.now)) result }
 {
-    let Some(number) = queue.strip_prefix("1.") else {
+    let [user, queue, after] = *words else {
         return Err(LineFault::NotAStep);
     };
-    let (Some(number), Some(after)) = (read_number(number), read_integer(after)) else {
+    let Some(user) = read_user(user) else {
+        return Err(LineFault::NotAStep);
+    };
+    let Some(queue) = read_queue(queue) else {
+        return Err(LineFault::NotAStep);
+    };
+    let Some(after) = read_event_number(after) else {
         return Err(LineFault::NotAStep);
     };
     Ok(Step::Poll {
-        user: UserId(1),
-        queue: QueueId {
-            user: UserId(1),
-            number,
-            salt: 0,
-        },
+        user,
+        queue,
         after,
+        beat: false,
     })
 }
 
-/// The number that a word writes, where it is below 2^32.
-fn read_number(word: &str) -> Option<u32>
-    ensures { MatchOption result
-        ((number : ℕ) → IsNumber word.now number → number < 2 ^ 32 → ⊥)
-        (λ number. IsNumber word.now number × (number < 2 ^ 32)) }
+fn read_view(words: &[&[u8]]) -> Result<Step, LineFault>
+    ensures { ReadsStep (RestSpells 0 LineName.View (pointed words.now)) result }
 {
-    if word.starts_with('+') {
-        return None;
-    }
-    word.parse().ok()
-}
-
-/// The integer that a word writes, where it has 64 bits.
-fn read_integer(word: &str) -> Option<i64>
-    ensures { MatchOption result
-        ((integer : ℤ) → IsInteger word.now integer → FitsSigned w64 integer → ⊥)
-        (λ integer. IsInteger word.now integer × FitsSigned w64 integer) }
-{
-    if word.starts_with('+') {
-        return None;
-    }
-    word.parse().ok()
-}
-
-fn is_address(word: &str) -> bool
-    ensures { IsTrue result ↔ IsWordOf is_address_byte word.now }
-{
-    has_word_length(word)
-        && word.bytes().all(|byte| byte.is_ascii_alphanumeric() || byte == b'@' || byte == b'.')
-}
-
-fn is_key(word: &str) -> bool
-    ensures { IsTrue result ↔ IsWordOf is_alphanumeric word.now }
-{
-    has_word_length(word) && word.bytes().all(|byte| byte.is_ascii_alphanumeric())
-}
-
-fn has_word_length(word: &str) -> bool
-    ensures { IsTrue result ↔ (1 ≤ length word.now) × (length word.now ≤ 60) }
-{
-    1 <= word.len() && word.len() <= 60
-}
-
-fn plain_text(alloc: Global, word: &str) -> Result<PlainText, LineFault>
-    ensures ok { IfOk result (λ text. text ≡ word.now) }
-    ensures err { IfErr result (λ fault. fault ≡ LineFault.NoMemory) }
-{
-    Ok(PlainText::new(String::from_str(alloc, word)?))
+    let [user] = *words else {
+        return Err(LineFault::NotAStep);
+    };
+    let Some(user) = read_user(user) else {
+        return Err(LineFault::NotAStep);
+    };
+    Ok(Step::View { user })
 }

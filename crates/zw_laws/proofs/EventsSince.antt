@@ -2,16 +2,15 @@
 use Rattle.std.proofs.Common.{◌≡◌, ℕ, zero, suc, ◌<◌, ◌≤◌, List, [], ◌∷◌, ◌++◌, length, append-nil, append_assoc, refl, ap, ap₂, sym, subst, ◌∙◌, ◌⊎◌, inl, inr, arith}
 use Rattle.std.proofs.lemmas.Bool.{cases_lt, lt-ltb, le-ltb}
 use Rattle.ev_base.specs.declared.ids.UserId.{UserId}
-use Rattle.zw_lines.specs.declared.people.Event.{Event}
-use Rattle.zw_lines.specs.Views.{view_of}
-use Rattle.zw_lines.specs.Changes.{changes_between}
-use Rattle.zw_lines.specs.RealmLine.{Accepted, tables, first_of, view_after}
-use Rattle.zw_lines.specs.Histories.{events_since}
-use Rattle.zw_lines.proofs.FirstCommits.{length-first_of, first_of_more}
+use Rattle.ev_types.specs.declared.event.Event.{Event}
+use Rattle.ev_types.specs.Changes.{changes_between}
+use Rattle.zw_traces.specs.RealmTrace.{Accepted, prefix_of, view_in, view_after}
+use Rattle.zw_traces.specs.RealmFeeds.{events_since}
+use Rattle.zw_traces.proofs.PrefixCommits.{length-prefix_of, first_of_more}
 
 -- what the commits from one number up to another changed in a user's view
 abbrev pub told : UserId → List Accepted → ℕ → ℕ → List Event
-told user all from until = events_since user from (first_of until all)
+told user all from until = events_since user from (prefix_of until all)
 
 -- the commits are no more than those that are left out
 events_since_none : (user : UserId) (n : ℕ) (list : List Accepted) → length list ≤ n → events_since user n list ≡ []
@@ -22,7 +21,7 @@ events_since_none user n (accepted ∷ before) within =
 
 -- the latest commit stands after those that are left out
 events_since_more : (user : UserId) (n : ℕ) (accepted : Accepted) (before : List Accepted) → n ≤ length before
-    → events_since user n (accepted ∷ before) ≡ events_since user n before ++ changes_between (view_of user (tables before)) (view_of user (tables (accepted ∷ before)))
+    → events_since user n (accepted ∷ before) ≡ events_since user n before ++ changes_between (view_in user before) (view_in user (accepted ∷ before))
 events_since_more user n accepted before within =
     let new = le-ltb (length before) n within in
     rw new
@@ -31,15 +30,15 @@ module _ (user : UserId) (all : List Accepted) where
   -- nothing changes from a commit to one before it
   pub since_none : (from until : ℕ) → until ≤ from → until ≤ length all → told user all from until ≡ []
   since_none from until none within =
-      events_since_none user from (first_of until all) (omega (arith, length-first_of until all within))
+      events_since_none user from (prefix_of until all) (omega (arith, length-prefix_of until all within))
 
   -- one commit more
   pub since_more : (from until : ℕ) → from ≤ until → until < length all
       → told user all from (suc until) ≡ told user all from until ++ changes_between (view_after user until all) (view_after user (suc until) all)
   since_more from until ordered within =
       let next = first_of_more until all within in
-      let P : List Accepted → Type 0 = λ list. events_since user from list ≡ told user all from until ++ changes_between (view_after user until all) (view_of user (tables list)) in
-      subst P (sym next.1) (events_since_more user from next.0 (first_of until all) (omega (arith, length-first_of until all (omega arith))))
+      let P : List Accepted → Type 0 = λ list. events_since user from list ≡ told user all from until ++ changes_between (view_after user until all) (view_in user list) in
+      subst P (sym next.1) (events_since_more user from next.0 (prefix_of until all) (omega (arith, length-prefix_of until all (omega arith))))
 
   -- what the commits changed may be told in two parts
   pub since_split : (from middle until : ℕ) → from ≤ middle → middle ≤ until → until ≤ length all

@@ -1,17 +1,16 @@
 -- A view with the events of later commits applied is the later view, whatever of these events it holds already.
 use Rattle.std.proofs.Common.{◌≡◌, ℕ, zero, suc, ◌<◌, ◌≤◌, List, length, sym, ap, subst, ◌∙◌, ◌⊎◌, inl, inr, arith}
 use Rattle.std.proofs.lemmas.Bool.{cases_lt}
-use Rattle.std.proofs.lemmas.Grind.{fold-append}
 use Rattle.ev_base.specs.declared.ids.UserId.{UserId}
-use Rattle.zw_lines.specs.Views.{view_of}
-use Rattle.zw_lines.specs.Changes.{Comparable, changes_between}
-use Rattle.zw_lines.specs.Applying.{with_event, applied}
-use Rattle.zw_lines.specs.RealmLine.{Accepted, tables, first_of, view_after}
-use Rattle.zw_lines.proofs.FirstCommits.{first_of_more}
-use Rattle.zw_lines.proofs.EventCells.{applied-applied}
-use Rattle.zw_laws.proofs.ViewChanges.{applied-changes_between}
-use Rattle.zw_laws.proofs.TablesCount.{comparable_commit, view_rises}
+use Rattle.ev_types.specs.Changes.{changes_between}
+use Rattle.ev_types.specs.Comparable.{Comparable}
+use Rattle.zw_traces.specs.RealmTrace.{Accepted, prefix_of, view_in, view_after}
+use Rattle.zw_traces.proofs.PrefixCommits.{first_of_more}
 use Rattle.zw_laws.proofs.EventsSince.{told, since_none, since_more, since_split}
+use Rattle.ev_laws.proofs.ViewLeads.{view_leads}
+use Rattle.zw_laws.proofs.CommitViews.{comparable_commit, view_sorted}
+use Rattle.ev_types.specs.Applying.{applied}
+use Rattle.ev_types.proofs.SectionsSettle.{applied-again, applied-append}
 
 module _ (user : UserId) (all : List Accepted) where
   -- one commit leads from a view to the next
@@ -19,8 +18,8 @@ module _ (user : UserId) (all : List Accepted) where
       → applied (changes_between (view_after user n all) (view_after user (suc n) all)) (view_after user n all) ≡ view_after user (suc n) all
   next_view n within =
       let next = first_of_more n all within in
-      let P : List Accepted → Type 0 = λ list. Comparable (view_after user n all) (view_of user (tables list)) in
-      applied-changes_between (view_after user n all) (view_after user (suc n) all) (subst P (sym next.1) (comparable_commit user next.0 (first_of n all)))
+      let P : List Accepted → Type 0 = λ list. Comparable (view_after user n all) (view_in user list) in
+      view_leads (view_after user n all) (view_after user (suc n) all) (subst P (sym next.1) (comparable_commit user next.0 (prefix_of n all)))
 
   -- the commits since a view lead to the later one
   pub later_view : (from until : ℕ) → from ≤ until → until ≤ length all
@@ -38,7 +37,7 @@ module _ (user : UserId) (all : List Accepted) where
           ap (λ events. applied events (view_after user from all)) (since_none user all from (suc until) (omega arith) within) ∙ ap (λ n. view_after user n all) start
       go (inr later) inner =
           ap (λ events. applied events (view_after user from all)) (since_more user all from until later within)
-          ∙ fold-append with_event (view_after user from all) (told user all from until) (changes_between (view_after user until all) (view_after user (suc until) all))
+          ∙ applied-append (told user all from until) (changes_between (view_after user until all) (view_after user (suc until) all)) (view_after user from all)
           ∙ ap (applied (changes_between (view_after user until all) (view_after user (suc until) all))) (inner later (omega arith))
           ∙ next_view until within
 
@@ -50,7 +49,7 @@ module _ (user : UserId) (all : List Accepted) where
       let new = told user all fetched reached in
       let fetch = later_view opened fetched first (omega arith) in
       ap (λ events. applied events (view_after user fetched all)) (since_split user all opened fetched reached first second within)
-      ∙ fold-append with_event (view_after user fetched all) known new
+      ∙ applied-append known new (view_after user fetched all)
       ∙ ap (applied new)
-      (ap (applied known) (sym fetch) ∙ applied-applied known (view_after user opened all) (view_rises user all opened) ∙ fetch)
+      (ap (applied known) (sym fetch) ∙ applied-again known (view_after user opened all) (view_sorted user (prefix_of opened all)) ∙ fetch)
       ∙ later_view fetched reached second within

@@ -1,4 +1,4 @@
-//! The laws over all legal lines and histories, each the contract of a function that does nothing.
+//! The laws over all legal traces and histories, each the contract of a function that does nothing.
 #![tactic(auto)]
 
 pub mod laws;

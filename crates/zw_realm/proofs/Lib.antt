@@ -1,5 +1,6 @@
-pub mod Refusals
-pub mod OneRow
 pub mod NoticeLists
-pub mod MovesStand
-pub mod TakesEffects
+pub mod NoticesTell
+pub mod SlowCode
+pub mod TellsCommits
+pub mod StepsRepresent
+pub mod Laying

@@ -1,15 +1,16 @@
 -- Lists of notices of successive commits: one more, some of them, and after more commits.
 use Rattle.std.proofs.Common.{◌≡◌, ℕ, zero, suc, ◌+◌, ◌≤◌, List, [], ◌∷◌, ◌++◌, length, take, drop, subst, arith}
-use Rattle.zw_lines.specs.declared.people.Notice.{Notice}
-use Rattle.zw_lines.specs.RealmLine.{Accepted, RealmStep, AreNotices, IsNotice, commands, commits}
-use Rattle.zw_lines.proofs.RealmLines.{IsNotice-stays}
+use Rattle.ev_types.specs.declared.notice.Notice.{Notice}
+use Rattle.zw_traces.specs.declared.realm.RealmStep.{RealmStep}
+use Rattle.zw_traces.specs.RealmTrace.{Accepted, AreNotices, IsNotice, commands, commits}
+use Rattle.zw_traces.proofs.RealmTraces.{IsNotice-stays}
 
 -- more steps leave the notices what they are
-pub AreNotices-stays : (step : RealmStep) (line : List RealmStep) (number : ℕ) (list : List Notice) → number + length list ≤ commits line + 1
-    → AreNotices (commands line) number list → AreNotices (commands (step ∷ line)) number list
-AreNotices-stays step line number [] within are = tt
-AreNotices-stays step line number (notice ∷ list) within are =
-    (IsNotice-stays step line number notice (omega arith) are.0, AreNotices-stays step line (number + 1) list (omega arith) are.1)
+pub AreNotices-stays : (step : RealmStep) (trace : List RealmStep) (number : ℕ) (list : List Notice) → number + length list ≤ commits trace + 1
+    → AreNotices (commands trace) number list → AreNotices (commands (step ∷ trace)) number list
+AreNotices-stays step trace number [] within are = tt
+AreNotices-stays step trace number (notice ∷ list) within are =
+    (IsNotice-stays step trace number notice (omega arith) are.0, AreNotices-stays step trace (number + 1) list (omega arith) are.1)
 
 module _ (all : List Accepted) where
   -- the notice of the next commit goes on with them

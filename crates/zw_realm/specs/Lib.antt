@@ -1,3 +1,3 @@
-pub mod Changing
-pub mod RealmStanding
-pub mod RealmMoves
+pub mod SlowNotices
+pub mod CoreStates
+pub mod CoreSteps

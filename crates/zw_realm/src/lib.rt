@@ -1,7 +1,8 @@
 //! The core of a realm: its tables, and the notices of its commits.
 #![tactic(auto)]
 
-mod change;
-mod realm;
+mod checking;
+mod comparing;
+mod realm_core;
 
-pub use realm::RealmCore;
+pub use realm_core::RealmCore;

@@ -1,39 +1,45 @@
--- A world: a realm and its shards, and the histories that it stands for.
+-- A world: a realm and its shards, and the histories that it represents.
 use Rattle.std.specs.Prelude.{List, [], ◌∷◌}
-use Rattle.zw_lines.specs.declared.realm.RealmInput.{RealmInput}
-use Rattle.zw_lines.specs.declared.realm.RealmReply.{RealmReply}
-use Rattle.zw_lines.specs.declared.shard.ShardInput.{ShardInput}
-use Rattle.zw_lines.specs.declared.shard.ShardReply.{ShardReply}
-use Rattle.zw_lines.specs.RealmLine.{RealmStep, RealmAnswers}
-use Rattle.zw_lines.specs.ShardLine.{ShardStep, ShardAnswers, given_rows, pushed_stream}
-use Rattle.zw_lines.specs.Histories.{History}
-use Rattle.zw_realm.specs.RealmStanding.{RealmState, RealmStands}
-use Rattle.zw_shard.specs.ShardStanding.{ShardState, ShardStands}
+use Rattle.zw_traces.specs.declared.realm.RealmInput.{RealmInput}
+use Rattle.zw_traces.specs.declared.realm.RealmReply.{RealmReply}
+use Rattle.zw_traces.specs.declared.realm.RealmStep.{RealmStep}
+use Rattle.zw_traces.specs.declared.shard.ShardInput.{ShardInput}
+use Rattle.zw_traces.specs.declared.shard.ShardReply.{ShardReply}
+use Rattle.zw_traces.specs.declared.shard.ShardStep.{ShardStep}
+use Rattle.zw_traces.specs.RealmTrace.{RealmAnswers}
+use Rattle.zw_traces.specs.ShardTrace.{ShardAnswers, given_rows, pushed_events, shard_account}
+use Rattle.zw_traces.specs.KeptAccount.{Represents}
+use Rattle.zw_traces.specs.Histories.{History}
+use Rattle.q_shard.specs.HeldQueues.{ShardState, seen}
+use Rattle.zw_realm.specs.CoreStates.{CoreState, RealmRepresents}
 
 -- the realm, and the shards by their indices
 pub record WorldState : Type 0 where
-  pub realm : RealmState
+  pub realm : CoreState
   pub shards : List ShardState
 
--- each shard stands for the line with its index, and there are as many lines as shards
-abbrev pub EachStands : List ShardState → List (List ShardStep) → Type 0
-EachStands [] [] = Unit {0}
-EachStands (shard ∷ shards) (line ∷ lines) = ShardStands shard line × EachStands shards lines
-EachStands [] (line ∷ lines) = ⊥
-EachStands (shard ∷ shards) [] = ⊥
+abbrev pub ShardRepresents : ShardState → List ShardStep → Type 0
+ShardRepresents shard trace = Represents (seen shard) trace
 
--- the realm and each shard stand for the lines of a history
-pub record WorldStands (world : WorldState) (history : History) : Type 0 where
-  pub realm : RealmStands world.realm history.realm
-  pub shards : EachStands world.shards history.shards
+-- each shard represents the trace with its index, and there are as many traces as shards
+abbrev pub EachRepresents : List ShardState → List (List ShardStep) → Type 0
+EachRepresents [] [] = Unit {0}
+EachRepresents (shard ∷ shards) (trace ∷ traces) = ShardRepresents shard trace × EachRepresents shards traces
+EachRepresents [] (trace ∷ traces) = ⊥
+EachRepresents (shard ∷ shards) [] = ⊥
+
+-- the realm and each shard represent the traces of a history
+pub record WorldRepresents (world : WorldState) (history : History) : Type 0 where
+  pub realm : RealmRepresents world.realm history.realm
+  pub shards : EachRepresents world.shards history.shards
 
 -- some history has it so
 abbrev pub IsSound : WorldState → Type 0
-IsSound world = (history : History) × WorldStands world history
+IsSound world = (history : History) × WorldRepresents world history
 
 -- the reply is right after some steps, and so is one that the input may have
 abbrev pub MayReply : RealmInput → RealmReply → Type 0
-MayReply input reply = (line : List RealmStep) × RealmAnswers line input reply
+MayReply input reply = (trace : List RealmStep) × RealmAnswers trace input reply
 
 abbrev pub ShardMayReply : ShardInput → ShardReply → Type 0
-ShardMayReply input reply = (line : List ShardStep) × ShardAnswers pushed_stream given_rows line input reply
+ShardMayReply input reply = (trace : List ShardStep) × ShardAnswers (shard_account pushed_events trace) given_rows input reply

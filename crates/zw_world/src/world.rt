@@ -1,17 +1,19 @@
+//! A realm and its shards.
+
 ghost use Rattle.std.specs.Prelude.{◌≡◌, ◌≤◌, ◌<◌, IfOk, length};
-ghost use Rattle.zw_lines.specs.RealmLine.{RealmAnswers};
-ghost use Rattle.zw_lines.specs.ShardLine.{ShardAnswers, given_rows, pushed_stream};
-ghost use Rattle.zw_lines.specs.Histories.{History, line_at, opening_history, shard_of, with_realm_step, with_shard_step};
-ghost use Rattle.zw_realm.specs.RealmStanding as of_realm;
-ghost use Rattle.zw_shard.specs.ShardStanding as of_shard;
-ghost use Rattle.zw_world.specs.Worlds.{MayReply, ShardMayReply, WorldStands};
+ghost use Rattle.zw_traces.specs.RealmTrace.{RealmAnswers};
+ghost use Rattle.zw_traces.specs.ShardTrace.{ShardAnswers, given_rows, pushed_events, shard_account};
+ghost use Rattle.zw_traces.specs.Histories.{History, opening_history, shard_of, trace_at, with_realm_step, with_shard_step};
+ghost use Rattle.q_shard.specs.ShardInputs as of_shard;
+ghost use Rattle.zw_realm.specs.CoreStates as of_realm;
+ghost use Rattle.zw_world.specs.Worlds.{MayReply, ShardMayReply, WorldRepresents};
 
 use ev_base::{NoMemory, UserId};
+use q_shard::ShardCore;
 use std::alloc::Global;
 use std::marker::Model;
-use zw_lines::{RealmInput, RealmReply, ShardInput, ShardReply};
 use zw_realm::RealmCore;
-use zw_shard::ShardCore;
+use zw_traces::{RealmInput, RealmReply, ShardInput, ShardReply};
 
 /// A realm and its shards. A user is served by the shard whose index is the user's number modulo
 /// their count.
@@ -38,14 +40,14 @@ impl World {
     pub fn new(alloc: Global, shards: u32) -> Result<World, NoMemory>
         requires some { 1 ≤ shards }
         requires few { shards ≤ 16 }
-        ensures { IfOk result (λ world. WorldStands world (opening_history shards)) }
+        ensures { IfOk result (λ world. WorldRepresents world (opening_history shards)) }
     {
         let mut cores = Vec::new(alloc);
         for _shard in 0..shards {
             cores.push(ShardCore::new(alloc))?;
         }
         Ok(World {
-            realm: RealmCore::new(alloc),
+            realm: RealmCore::new(alloc)?,
             shards: cores,
         })
     }
@@ -65,6 +67,13 @@ impl World {
         self.realm.announced()
     }
 
+    /// How many commits the realm has.
+    pub fn commits(&self) -> u64
+        ensures { result ≡ length self.now.realm.notices }
+    {
+        self.realm.commits()
+    }
+
     /// The index of the shard that serves a user.
     pub fn serving(&self, user: UserId) -> u32
         ensures index { result ≡ shard_of (length self.now.shards) user }
@@ -78,9 +87,9 @@ impl World {
         requires { of_realm.IsProper input }
         ensures shards { length self.new.shards ≡ length self.old.shards }
         ensures kind { MayReply input result }
-        ensures reply { (history : History) → WorldStands self.old history → RealmAnswers history.realm input result }
-        ensures stands { (history : History) → WorldStands self.old history
-            → WorldStands self.new (with_realm_step input result history) }
+        ensures reply { (history : History) → WorldRepresents self.old history → RealmAnswers history.realm input result }
+        ensures represents { (history : History) → WorldRepresents self.old history
+            → WorldRepresents self.new (with_realm_step input result history) }
     {
         self.realm.step(alloc, input)
     }
@@ -91,10 +100,11 @@ impl World {
         requires proper { of_shard.IsProper input }
         ensures shards { length self.new.shards ≡ length self.old.shards }
         ensures kind { ShardMayReply input result }
-        ensures reply { (history : History) → WorldStands self.old history
-            → ShardAnswers pushed_stream given_rows (line_at shard history.shards) input result }
-        ensures stands { (history : History) → WorldStands self.old history
-            → WorldStands self.new (with_shard_step shard input result history) }
+        ensures reply { (history : History) → WorldRepresents self.old history
+            → ShardAnswers (shard_account pushed_events (trace_at shard history.shards))
+            given_rows input result }
+        ensures represents { (history : History) → WorldRepresents self.old history
+            → WorldRepresents self.new (with_shard_step shard input result history) }
     {
         self.shards[shard as usize].step(alloc, input)
     }

@@ -3,7 +3,7 @@
 ghost use Rattle.std.specs.Prelude.{◌≡◌, List, [], ◌∷◌, ◌++◌, flat_map, map, IfOk};
 ghost use Rattle.ev_rows.specs.Rows.{gained, kept, keys_of, one_of};
 ghost use Rattle.ev_types.specs.declared.event.Event.{Event};
-ghost use Rattle.ev_laws.specs.Changes.{unless};
+ghost use Rattle.ev_types.specs.Changes.{unless};
 
 use ev_base::{ExactClone, Keyed, Listed, NoMemory};
 use ev_types::Event;

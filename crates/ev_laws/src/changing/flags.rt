@@ -2,7 +2,7 @@
 
 ghost use Rattle.std.specs.Prelude.{◌≡◌, false, ◌++◌, filter, map, IfOk};
 ghost use Rattle.ev_rows.specs.Rows.{keys_of};
-ghost use Rattle.ev_laws.specs.Changes.{details_of, flag_event, flag_events, flag_in, turned};
+ghost use Rattle.ev_types.specs.Changes.{details_of, flag_event, flag_events, flag_in, turned};
 ghost use Rattle.ev_laws.specs.Kept.{kept_row};
 
 use super::kept::KeptMessage;

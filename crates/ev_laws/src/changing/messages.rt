@@ -4,7 +4,7 @@ ghost use Rattle.std.specs.Prelude.{◌≡◌, ◌++◌, filter, map, IfOk};
 ghost use Rattle.std.specs.BTreeMap.{is_at};
 ghost use Rattle.ev_rows.specs.Rows.{gained};
 ghost use Rattle.ev_base.specs.Orders.{message_cmp};
-ghost use Rattle.ev_laws.specs.Changes.{arrivals, edits, full_message};
+ghost use Rattle.ev_types.specs.Changes.{arrivals, edits, full_message};
 
 use super::differences::{Changing, gained_rows, push_change};
 use super::ranges::rows_under;

@@ -4,7 +4,7 @@ ghost use Rattle.std.specs.Prelude.{◌≡◌, ◌≤◌, [], ◌++◌, map, IfO
 ghost use Rattle.std.specs.Option.{unwrap_or};
 ghost use Rattle.std.specs.BTreeMap.{insert_entry};
 ghost use Rattle.ev_rows.specs.Rows.{row_at};
-ghost use Rattle.ev_laws.specs.Changes.{move_events, moved_to, moves_of, place_cmp, same_place, with_move};
+ghost use Rattle.ev_types.specs.Changes.{move_events, moved_to, moves_of, place_cmp, same_place, with_move};
 ghost use Rattle.ev_laws.specs.Kept.{kept_row};
 
 use super::differences::push_each;

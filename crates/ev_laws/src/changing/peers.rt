@@ -5,7 +5,7 @@ ghost use Rattle.std.specs.BTreeMap.{is_at};
 ghost use Rattle.ev_rows.specs.Rows.{gained, keys_of, one_of, only_if, row_at};
 ghost use Rattle.ev_base.specs.Orders.{stream_cmp, stream_user_cmp, user_cmp};
 ghost use Rattle.ev_types.specs.declared.event.Event.{Event};
-ghost use Rattle.ev_laws.specs.Changes.{peers_added, peers_of, peers_removed};
+ghost use Rattle.ev_types.specs.Changes.{peers_added, peers_of, peers_removed};
 
 use super::differences::push_one_of;
 use super::ranges::rows_under;

@@ -1,7 +1,7 @@
 //! What changed in the realm and its users.
 
 ghost use Rattle.std.specs.Prelude.{◌≡◌, ◌++◌, IfOk};
-ghost use Rattle.ev_laws.specs.Changes.{realm_changes, user_changes, user_events};
+ghost use Rattle.ev_types.specs.Changes.{realm_changes, user_changes, user_events};
 
 use super::differences::{Changing, gained_rows, push_change, push_each, push_kept};
 use ev_base::{ExactClone, Keyed, NoMemory, UserId};

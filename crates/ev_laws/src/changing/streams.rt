@@ -1,7 +1,7 @@
 //! What changed in the streams, and in the reader's subscriptions.
 
 ghost use Rattle.std.specs.Prelude.{◌≡◌, ◌++◌, IfOk};
-ghost use Rattle.ev_laws.specs.Changes.{stream_changes, stream_events, subscription_changes, subscription_events};
+ghost use Rattle.ev_types.specs.Changes.{stream_changes, stream_events, subscription_changes, subscription_events};
 
 use super::differences::{Changing, gained_keys, gained_rows, push_change, push_kept, push_one_of};
 use ev_base::{Keyed, NoMemory, StreamId};

@@ -1,6 +1,6 @@
 use Rattle.std.proofs.Common.{◌≡◌, ◌∙◌, ◌++◌, ap}
 use Rattle.ev_types.specs.Sections.{Sections}
-use Rattle.ev_laws.specs.Changes.{changes_between}
+use Rattle.ev_types.specs.Changes.{changes_between}
 use Rattle.ev_laws.specs.Compared.{compared, sections_in}
 use Rattle.ev_laws.proofs.Loops.{joined}
 use Rattle.ev_laws.proofs.changing.changes.Goals as goal

@@ -3,7 +3,7 @@ use Rattle.std.proofs.lemmas.Result.{IfOk-equal}
 use Rattle.ev_rows.specs.Rows.{kept, one_of}
 use Rattle.ev_base.specs.Orders.{message_cmp}
 use Rattle.ev_types.specs.declared.event.Event.TheVariants.{MessageGone}
-use Rattle.ev_laws.specs.Changes.{flag_events, move_events}
+use Rattle.ev_types.specs.Changes.{flag_events, move_events}
 use Rattle.ev_laws.specs.Kept.{kept_row}
 use Rattle.ev_laws.proofs.Loops.{joined, joined_last}
 use Rattle.ev_laws.proofs.changing.push_messages.Goals as goal

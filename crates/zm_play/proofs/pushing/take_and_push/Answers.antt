@@ -12,14 +12,14 @@ loop-reached-preserved c =
     record {
       shards = c.in_ok-reached.ensures.shards ∙ c.loop-reached.invariant.shards;
       goes = rounds_go _ _ _ c.args.shard c.args.need c.args.have c.loop-reached.reached c.in_ok-reached.reached below c.loop-reached-test.true
-          c.loop-reached.invariant.goes c.in_ok-reached.ensures.goes;
+          c.loop-reached.invariant.goes c.in_ok-reached.ensures.continues;
     }
 
-pub returns-in_err-reached-clause-goes : goal.returns-in_err-reached-clause-goes
-returns-in_err-reached-clause-goes c =
+pub returns-in_err-reached-clause-continues : goal.returns-in_err-reached-clause-continues
+returns-in_err-reached-clause-continues c =
     let p = err_from_is_err_and c.from_residual.result c.from_residual.ensures.1 in
     rw p.1 (rounds_stop _ _ _ c.args.shard c.args.need c.args.have c.loop-reached.reached c.loop-reached-test.true
-    c.loop-reached.invariant.goes c.in_err-reached.ensures.goes)
+    c.loop-reached.invariant.goes c.in_err-reached.ensures.continues)
 
-pub returns-clause-goes : goal.returns-clause-goes
-returns-clause-goes c = rounds_end _ _ c.args.shard c.args.need c.args.have c.loop-reached.reached c.loop-reached-test.false c.loop-reached.invariant.goes
+pub returns-clause-continues : goal.returns-clause-continues
+returns-clause-continues c = rounds_end _ _ c.args.shard c.args.need c.args.have c.loop-reached.reached c.loop-reached-test.false c.loop-reached.invariant.goes

@@ -4,7 +4,7 @@ use Rattle.zm_run.proofs.Ending.{ends_at_fault, ends_at_first, lines_counted, ru
 use Rattle.zm_run.proofs.replay.replay.Goals as goal
 
 pub returns-in_default-clause-replays : goal.returns-in_default-clause-replays
-returns-in_default-clause-replays g c = ends_at_first c.scripts_are_sound.ensures (g.S.Source.left c.args.source.now) (g.K.Sink.held c.args.sink.now)
+returns-in_default-clause-replays g c = ends_at_first (g.S.Source.left c.args.source.now) (g.K.Sink.held c.args.sink.now)
 
 pub play_piece-requires : goal.play_piece-requires
 play_piece-requires g c =

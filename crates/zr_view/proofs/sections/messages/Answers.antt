@@ -1,8 +1,8 @@
 use Rattle.std.proofs.Common.{◌≡◌, ◌∙◌, List, IfOk, subst, rules}
 use Rattle.ev_rows.specs.Rows.{sift}
 use Rattle.ev_base.specs.declared.ids.MessageId.{MessageId}
-use Rattle.zr_posts.specs.declared.rows.Message.{Message}
-use Rattle.zr_view.specs.RowViews.{message_in}
+use Rattle.zr_types.specs.declared.posts.Message.{Message}
+use Rattle.zw_views.specs.RowViews.{message_in}
 use Rattle.zr_view.proofs.sections.messages.Goals as goal
 
 -- each row is made of the row of its key

@@ -2,7 +2,7 @@ use Rattle.std.proofs.Common.{◌≡◌, ◌∙◌, List, IfOk, subst, rules}
 use Rattle.std.specs.Prelude.{⊤}
 use Rattle.ev_rows.specs.Rows.{sift}
 use Rattle.ev_types.specs.Sections.{ReactionKey}
-use Rattle.zr_view.specs.RowViews.{reaction_in}
+use Rattle.zw_views.specs.RowViews.{reaction_in}
 use Rattle.zr_view.proofs.sections.reactions.Goals as goal
 
 -- each row is made of the row of its key

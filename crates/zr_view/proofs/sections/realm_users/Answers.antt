@@ -1,9 +1,9 @@
 use Rattle.std.proofs.Common.{◌≡◌, ◌∙◌, List, Some, IfOk, subst, rules}
 use Rattle.ev_rows.specs.Rows.{sift}
 use Rattle.ev_base.specs.declared.ids.UserId.{UserId}
-use Rattle.zr_people.specs.declared.rows.User.{User}
-use Rattle.zr_view.specs.Views.{shown_user}
-use Rattle.zr_view.proofs.ViewLemmas.{users_are_sifted}
+use Rattle.zr_types.specs.declared.people.User.{User}
+use Rattle.zw_views.specs.Views.{shown_user}
+use Rattle.zw_views.proofs.ViewLemmas.{users_are_sifted}
 use Rattle.zr_view.proofs.sections.realm_users.Goals as goal
 
 -- each row is made of the row of its key

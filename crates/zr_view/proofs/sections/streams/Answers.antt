@@ -1,8 +1,8 @@
 use Rattle.std.proofs.Common.{◌≡◌, ◌∙◌, List, IfOk, subst, rules}
 use Rattle.ev_rows.specs.Rows.{sift}
 use Rattle.ev_base.specs.declared.ids.StreamId.{StreamId}
-use Rattle.zr_streams.specs.declared.rows.Stream.{Stream}
-use Rattle.zr_view.specs.RowViews.{stream_in}
+use Rattle.zr_types.specs.declared.streams.Stream.{Stream}
+use Rattle.zw_views.specs.RowViews.{stream_in}
 use Rattle.zr_view.proofs.sections.streams.Goals as goal
 
 -- each row is made of the row of its key

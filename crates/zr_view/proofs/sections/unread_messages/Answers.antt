@@ -1,9 +1,9 @@
 use Rattle.std.proofs.Common.{◌≡◌, ◌∙◌, List, IfOk, subst, rules}
 use Rattle.ev_rows.specs.Rows.{sift}
 use Rattle.ev_base.specs.declared.ids.MessageId.{MessageId}
-use Rattle.zr_posts.specs.declared.rows.Message.{Message}
-use Rattle.zr_view.specs.RowViews.{unread_in}
-use Rattle.zr_view.proofs.ViewLemmas.{unread_are_sifted}
+use Rattle.zr_types.specs.declared.posts.Message.{Message}
+use Rattle.zw_views.specs.RowViews.{unread_in}
+use Rattle.zw_views.proofs.ViewLemmas.{unread_are_sifted}
 use Rattle.zr_view.proofs.sections.unread_messages.Goals as goal
 
 -- each row is made of the row of its key

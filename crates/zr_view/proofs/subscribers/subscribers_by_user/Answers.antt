@@ -1,6 +1,6 @@
 use Rattle.std.proofs.Common.{◌∙◌, ◌++◌, ◌∷◌, [], ap, sym, take, append-nil}
 use Rattle.std.specs.List.{cons_option, filter_map}
-use Rattle.zr_view.specs.RowViews.{subscriber_in}
+use Rattle.zw_views.specs.RowViews.{subscriber_in}
 use Rattle.zr_view.proofs.SiftedLemmas.{made_more}
 use Rattle.zr_view.proofs.subscribers.subscribers_by_user.Goals as goal
 use Rattle.zr_view.proofs.subscribers.subscribers_by_user.Goals.{in-Some+in_ok-push, in_default}
@@ -8,7 +8,7 @@ use Rattle.zr_view.proofs.subscribers.subscribers_by_user.Goals.{in-Some+in_ok-p
 pub loop-row-preserved : goal.loop-row-preserved
 loop-row-preserved c =
     let make = subscriber_in c.args.realm.now.state.tables c.args.user in
-    let rows = c.subscriptions_rows-rows.result.now in
+    let rows = c.args.rows.now in
     let at = c.loop-row.row-index in
     let more = made_more make rows at c.row-item.result c.loop-row-test.true c.row-item.is in
     elim c.match-subscriber_in.branch [

@@ -1,6 +1,6 @@
 use Rattle.std.proofs.Common.{◌≡◌, take}
 use Rattle.std.specs.List.{filter_map}
-use Rattle.zr_view.specs.RowViews.{subscriber_in}
+use Rattle.zw_views.specs.RowViews.{subscriber_in}
 use Rattle.zr_view.proofs.subscribers.subscribers_by_user.Given as goal
 
 abbrev pub invariant-loop-row : goal.invariant-loop-row

@@ -1,5 +1,5 @@
 use Rattle.std.proofs.Common.{◌≡◌, filter, map, take}
-use Rattle.ev_laws.specs.Changes.{turned}
+use Rattle.ev_types.specs.Changes.{turned}
 use Rattle.ev_laws.specs.Kept.{kept_row}
 use Rattle.ev_laws.proofs.changing.flags.turned_rows.Given as goal
 

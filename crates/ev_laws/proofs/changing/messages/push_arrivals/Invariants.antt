@@ -1,5 +1,5 @@
 use Rattle.std.proofs.Common.{◌≡◌, map}
-use Rattle.ev_laws.specs.Changes.{full_message}
+use Rattle.ev_types.specs.Changes.{full_message}
 use Rattle.ev_laws.proofs.changing.messages.push_arrivals.Given as goal
 
 abbrev pub invariant-loop-message : goal.invariant-loop-message

@@ -1,5 +1,5 @@
 use Rattle.std.proofs.Common.{◌≡◌, map, take}
-use Rattle.ev_laws.specs.Changes.{moves_of}
+use Rattle.ev_types.specs.Changes.{moves_of}
 use Rattle.ev_laws.specs.Kept.{kept_row}
 use Rattle.ev_laws.proofs.changing.moves.group_moves.Given as goal
 

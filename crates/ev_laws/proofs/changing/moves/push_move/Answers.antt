@@ -3,7 +3,7 @@ use Rattle.std.specs.Option.{unwrap_or}
 use Rattle.std.specs.BTreeMap.{insert_entry}
 use Rattle.ev_rows.specs.Rows.{row_at}
 use Rattle.ev_base.specs.declared.ids.MessageId.{MessageId}
-use Rattle.ev_laws.specs.Changes.{Moves, StreamPlace, place_cmp, with_move}
+use Rattle.ev_types.specs.Changes.{Moves, StreamPlace, place_cmp, with_move}
 use Rattle.ev_laws.proofs.Moving.{put_there, put_twice}
 use Rattle.ev_laws.proofs.changing.moves.push_move.Goals as goal
 

@@ -6,7 +6,7 @@ use Rattle.ev_rows.specs.Rows.{only_if, row_at}
 use Rattle.ev_base.specs.Orders.{stream_user_cmp}
 use Rattle.ev_base.specs.declared.ids.StreamId.{StreamId}
 use Rattle.ev_base.specs.declared.ids.UserId.{UserId}
-use Rattle.ev_laws.specs.Changes.{Peers}
+use Rattle.ev_types.specs.Changes.{Peers}
 use Rattle.ev_laws.proofs.Loops.{filter_map_next, take_whole}
 use Rattle.ev_laws.proofs.Ranges.{new_among_rows}
 use Rattle.ev_laws.proofs.changing.peers.new_peers.Goals as goal

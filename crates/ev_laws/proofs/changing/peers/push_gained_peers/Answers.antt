@@ -4,7 +4,7 @@ use Rattle.ev_base.specs.Orders.{user_cmp}
 use Rattle.ev_base.specs.declared.ids.StreamId.{StreamId}
 use Rattle.ev_types.specs.declared.rows.ShownStream.{ShownStream}
 use Rattle.ev_types.specs.declared.event.Event.{Event}
-use Rattle.ev_laws.specs.Changes.{peers_of}
+use Rattle.ev_types.specs.Changes.{peers_of}
 use Rattle.ev_laws.proofs.Loops.{flat_map_next, take_whole}
 use Rattle.ev_laws.proofs.changing.peers.push_gained_peers.Goals as goal
 

@@ -4,7 +4,7 @@ use Rattle.ev_base.specs.Orders.{user_cmp}
 use Rattle.ev_base.specs.declared.ids.StreamId.{StreamId}
 use Rattle.ev_base.specs.declared.ids.UserId.{UserId}
 use Rattle.ev_types.specs.declared.event.Event.{Event}
-use Rattle.ev_laws.specs.Changes.{peers_of}
+use Rattle.ev_types.specs.Changes.{peers_of}
 use Rattle.ev_laws.proofs.changing.peers.push_gained_peers.Given as goal
 
 abbrev pub invariant-loop-stream : goal.invariant-loop-stream

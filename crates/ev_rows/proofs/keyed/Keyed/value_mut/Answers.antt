@@ -1,7 +1,7 @@
 use Rattle.std.proofs.Common.{◌≡◌, ap, sym, refl, subst, ◌∙◌, arith}
 use Rattle.std.specs.Map.{set_value}
 use Rattle.std.specs.BTreeMap.{is_at}
-use Rattle.ev_rows.specs.Rows.{RowsRise}
+use Rattle.ev_rows.specs.Rows.{SortedByKey}
 use Rattle.ev_rows.specs.Place.{IsFoundAt}
 use Rattle.ev_rows.proofs.RiseLemmas.{rise-set_value}
 use Rattle.ev_rows.proofs.PlaceLemmas.{found_within, lookup-found, set_value-found}
@@ -21,7 +21,7 @@ invariant_of-self-lent g c = λ w.
     let rows = c.self.inside.rows.items in
     let rows_is : rows ≡ c.args.self.now.rows = ap (λ t. t.rows) c.self.view_is in
     let found : IsFoundAt (cmp c.args.key.now) rows c.args.at = rw rows_is c.requires in
-    subst (RowsRise cmp) (set_value-found _ _ _ _ w c.index_mut-found.ensures.value found) (rise-set_value cmp _ w rows c.self.invariant)
+    subst (SortedByKey cmp) (set_value-found _ _ _ _ w c.index_mut-found.ensures.value found) (rise-set_value cmp _ w rows c.self.invariant)
 
 pub returns : goal.returns
 returns g c =

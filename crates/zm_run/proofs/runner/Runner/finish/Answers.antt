@@ -4,7 +4,7 @@ use Rattle.zm_run.proofs.runner.Runner.finish.Goals as goal
 pub returns-in-Failed-clause-ends : goal.returns-in-Failed-clause-ends
 returns-in-Failed-clause-ends g c = λ left left' held running no_feed spent.
     let goes = rw c.pending.ensures at c.play_rest-played.ensures.played in
-    fault_at_end left left' held _ _ c.args.self c.play_rest-played.new.self c.args.input.now c.play_rest-played.result running
+    fault_at_end left left' held _ _ c.args.self c.play_rest-played.new.self c.args.input.now c.play_rest-played.result running spent
     (goes left' running.lines running.written no_feed spent running.played) c.in-Failed.ensures.put
 
 pub returns-in-Ok-clause-ends : goal.returns-in-Ok-clause-ends

@@ -2,7 +2,7 @@ use Rattle.std.proofs.Common.{◌≡◌, ℕ, ◌+◌, ◌-◌, ◌<◌, List, �
 use Rattle.std.proofs.lemmas.Result.{err_from_is_err_and}
 use Rattle.zm_run.specs.declared.runner.Stop.{Stop}
 use Rattle.zm_run.specs.declared.runner.Stop.TheVariants.{BadLine}
-use Rattle.zm_run.specs.Inputs.{HasNoFeed, longest_line}
+use Rattle.zm_run.specs.Inputs.{HasNoFeed, max_line_bytes}
 use Rattle.zm_run.specs.Running.{HasPlayed, IsBad}
 use Rattle.zm_run.proofs.Feeds.{feed_behind, no_feed_behind}
 use Rattle.zm_run.proofs.Playing.{played_more, played_none, stopped_in, why_in, why_too_long}
@@ -29,12 +29,12 @@ loop-length-preserved c =
           (λ before on. goes before written at.no_feed on) (c.loop-length.invariant.played lines written played);
     }
 
-pub returns-then-bytes-used-gt-LONGEST_LINE-clause-played : goal.returns-then-bytes-used-gt-LONGEST_LINE-clause-played
-returns-then-bytes-used-gt-LONGEST_LINE-clause-played c = λ left lines written played.
+pub returns-then-bytes-used-gt-MAX_LINE_BYTES-clause-played : goal.returns-then-bytes-used-gt-MAX_LINE_BYTES-clause-played
+returns-then-bytes-used-gt-MAX_LINE_BYTES-clause-played c = λ left lines written played.
     let bytes = c.args.bytes.now in
     let used = c.loop-length.used in
     let size = length-drop used bytes in
-    let long : longest_line < length (drop used bytes) = omega (arith, c.if-bytes-used-gt-LONGEST_LINE.true) in
+    let long : max_line_bytes < length (drop used bytes) = omega (arith, c.if-bytes-used-gt-MAX_LINE_BYTES.true) in
     stopped_in BadLine c.loop-length.self c.loop-length.self lines written bytes used left (c.loop-length.invariant.played lines written played)
     refl refl (why_too_long (drop used bytes) left (no_feed_behind bytes used c.in_default.ensures) long)
 

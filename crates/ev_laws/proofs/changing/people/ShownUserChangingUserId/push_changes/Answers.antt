@@ -1,7 +1,7 @@
 use Rattle.std.proofs.Common.{◌∙◌, ◌++◌, ap, rules}
 use Rattle.ev_types.specs.declared.event.UserField.TheVariants as user_field
 use Rattle.ev_types.specs.declared.event.Event.TheVariants.{UserChange}
-use Rattle.ev_laws.specs.Changes.{unless}
+use Rattle.ev_types.specs.Changes.{unless}
 use Rattle.ev_laws.proofs.Loops.{joined, joined_last}
 use Rattle.ev_laws.proofs.Tests.{roles_alike}
 use Rattle.ev_laws.proofs.changing.people.ShownUserChangingUserId.push_changes.Goals as goal

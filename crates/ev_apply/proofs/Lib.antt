@@ -1,0 +1,4 @@
+pub mod Inserts
+pub mod Rooms
+pub mod Loops
+pub mod Ready

@@ -1,0 +1,4 @@
+pub mod Kinds
+pub mod Makers
+pub mod Room
+pub mod AllWrites

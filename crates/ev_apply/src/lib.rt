@@ -1,0 +1,14 @@
+//! Events applied to the sections that a client has.
+#![tactic(auto)]
+
+mod applying;
+mod event_writes;
+mod fields;
+mod message_field;
+mod message_writes;
+mod people_writes;
+mod row_write;
+mod rows;
+mod section_writes;
+
+pub use applying::{Prepared, apply_events, prepare};

@@ -1,0 +1,4 @@
+pub mod ItemLemmas
+pub mod AccountLemmas
+pub mod PollLemmas
+pub mod KeptSteps

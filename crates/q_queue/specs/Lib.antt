@@ -1,0 +1,4 @@
+pub mod IsKept
+pub mod Polled
+pub mod QueueValue
+pub mod Stored

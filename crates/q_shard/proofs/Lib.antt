@@ -1,0 +1,5 @@
+pub mod HeldLemmas
+pub mod StepLemmas
+pub mod EntryLemmas
+pub mod LoopLemmas
+pub mod ReplyLemmas

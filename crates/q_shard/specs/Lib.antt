@@ -1,0 +1,2 @@
+pub mod ShardInputs
+pub mod HeldQueues

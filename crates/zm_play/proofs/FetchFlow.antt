@@ -1,0 +1,129 @@
+-- Sections that are fetched, and shown as one state.
+use Rattle.std.proofs.Common.{◌≡◌, ℕ, ◌+◌, ◌<◌, None, Some, List, [], ◌∷◌, ◌++◌, length, map, fold, take, drop, refl, ap, sym, subst, ◌∙◌, append_assoc}
+use Rattle.std.proofs.lemmas.List.{map-append, take-append-drop, take_more}
+use Rattle.std.proofs.Math.ListN.{get_or}
+use Rattle.ev_base.specs.declared.ids.UserId.{UserId}
+use Rattle.ev_types.specs.declared.section.Section.{Section}
+use Rattle.ev_types.specs.declared.state.State.{State}
+use Rattle.ev_types.specs.Sections.{SomeSections, sections_of}
+use Rattle.zw_traces.specs.declared.realm.RealmInput.TheVariants.{Fetch}
+use Rattle.zw_traces.specs.declared.realm.RealmReply.TheVariants.{FetchRefused as fetch_refused, Section as answered}
+use Rattle.zw_traces.specs.declared.shard.FetchedSection.{FetchedSection}
+use Rattle.zw_traces.specs.FetchedSections.{all_sections}
+use Rattle.zw_traces.specs.RealmTrace.{Accepted, IsLegalRealm, commands, view_in}
+use Rattle.zw_traces.specs.Histories.{History, with_realm_step}
+use Rattle.zw_world.specs.Worlds.{WorldState}
+use Rattle.zs_script.specs.declared.step.Step.TheVariants.{View}
+use Rattle.zm_text.specs.declared.outcome.Outcome.TheVariants.{Viewed}
+use Rattle.zm_text.specs.Playing.{AreShown, Plays, PlaysRefusedFetch, sections, with_fetch, with_fetches}
+use Rattle.zm_text.proofs.Fetches.{AllParts, fetched_parts, fetches_commands, fetches_more, part_in, parts_are}
+use Rattle.zm_play.specs.Flows.{Any, Continues, Extends, FetchesAll, FetchesOne}
+use Rattle.zm_play.specs.Flows.Extends.{rests, asks_realm}
+use Rattle.zm_play.specs.States.{no_sections, with_part}
+use Rattle.zm_play.proofs.PushRounds.{goes_on_from}
+use Rattle.zm_play.proofs.Steps.{goes_twice}
+
+-- fetches are more steps
+pub fetches_extend : (user : UserId) (parts : List FetchedSection) (before : History) → Extends before (with_fetches user parts before)
+fetches_extend user [] before = rests
+fetches_extend user (part ∷ parts) before =
+    goes_on_from (asks_realm (Fetch user part.section) (answered part.rows part.at) rests) (fetches_extend user parts (with_fetch user before part))
+
+module _ (user : UserId) (asked : List Section) where
+  -- what was fetched so far
+  pub record Fetched (done : ℕ) (parts : List FetchedSection) (before after : History) : Type 0 where
+    pub in_order : sections parts ≡ take done asked
+    pub is : after ≡ with_fetches user parts before
+
+  pub none_fetched : (world : WorldState) → Continues world world Any (Fetched 0 [])
+  none_fetched world before at =
+      (before, record { represents = at.represents; fed = at.fed; holds = record { in_order = refl; is = refl } })
+
+  module _ (old world new : WorldState) (done : ℕ) (parts : List FetchedSection) (which : Section)
+      (so_far : Continues old world Any (Fetched done parts)) where
+    -- one more is fetched
+    pub fetched_more : (part : FetchedSection) → take (done + 1) asked ≡ take done asked ++ which ∷ []
+        → Continues world new Any (FetchesOne user which (Some part))
+        → Continues old new Any (Fetched (done + 1) (parts ++ part ∷ []))
+    fetched_more part next one = goes_twice so_far one (λ before between at now. tt) (λ before between after at now last. record {
+      in_order = map-append (λ (p : FetchedSection). p.section) parts (part ∷ [])
+          ∙ ap (λ (list : List Section). list ++ part.section ∷ []) now.holds.in_order
+          ∙ ap (λ (s : Section). take done asked ++ s ∷ []) last.holds.0
+          ∙ sym next;
+      is = last.holds.1 ∙ ap (λ (h : History). with_fetch user h part) now.holds.is ∙ sym (fetches_more user parts part before);
+    })
+
+  module _ (old world new : WorldState) (done : ℕ) (parts : List FetchedSection) (so_far : Continues old world Any (Fetched done parts)) where
+    -- or refused
+    pub fetched_none : (other : Section) → done < length asked
+        → Continues world new Any (FetchesOne user (get_or asked done other) None)
+        → Continues old new Any (PlaysRefusedFetch user asked)
+    fetched_none other inside one = goes_twice so_far one (λ before between at now. tt) (λ before between after at now last.
+        let which = get_or asked done other in
+        let rest = drop (done + 1) asked in
+        let split : asked ≡ take done asked ++ which ∷ rest =
+        sym (take-append-drop (done + 1) asked) ∙ ap (λ (front : List Section). front ++ rest) (take_more asked done other inside) ∙ append_assoc (take done asked) (which ∷ []) rest in
+        record {
+          parts = parts;
+          which = which;
+          others = rest;
+          in_order = split ∙ ap (λ (list : List Section). list ++ which ∷ rest) (sym now.holds.in_order);
+          refused = last.holds ∙ ap (with_realm_step (Fetch user which) fetch_refused) now.holds.is;
+        })
+
+    -- or it stopped
+    pub fetching_stops : Continues world new Any Extends → Continues old new Any Extends
+    fetching_stops stops = goes_twice so_far stops (λ before between at now. tt) (λ before between after at now last.
+        goes_on_from (subst (Extends before) (sym now.holds.is) (fetches_extend user parts before)) last.holds)
+
+    -- or it stopped after one more
+    pub fetched_stops : (which : Section) (part : FetchedSection) → Continues world new Any (FetchesOne user which (Some part)) → Continues old new Any Extends
+    fetched_stops which part one = fetching_stops (λ before at.
+        let there = one before at in
+        let now = there.1 in
+        (there.0, record { represents = now.represents; fed = now.fed; holds = subst (Extends before) (sym now.holds.1) (asks_realm (Fetch user part.section) (answered part.rows part.at) rests) }))
+
+  -- all are fetched
+  pub fetched_all : (old world : WorldState) (done : ℕ) (parts : List FetchedSection) → take done asked ≡ asked
+      → Continues old world Any (Fetched done parts) → Continues old world Any (FetchesAll user asked (Some parts))
+  fetched_all old world done parts whole so_far before at =
+      let there = so_far before at in
+      let now = there.1 in
+      (there.0, record { represents = now.represents; fed = now.fed; holds = (now.holds.in_order ∙ whole, now.holds.is) })
+
+-- all sections of a view, shown as a state
+shown_view : (user : UserId) (all : List Accepted) (parts : List FetchedSection) → sections parts ≡ all_sections → AllParts user all parts
+    → AreShown (length all) (fold with_part no_sections parts) parts
+shown_view user all parts in_order are =
+    let view = view_in user all in
+    let n = length all in
+    let whole : parts ≡ map (part_in user view n) all_sections = parts_are user all parts are ∙ ap (map (part_in user view n)) in_order in
+    subst (λ (list : List FetchedSection). AreShown n (fold with_part no_sections list) list) (sym whole)
+    (refl, refl, (refl, refl, (refl, refl, (refl, refl, (refl, refl, (refl, refl, (refl, refl, (refl, refl, (refl, refl, tt)))))))))
+
+module _ (old new : WorldState) (user : UserId) where
+  -- a view whose sections were fetched is shown
+  pub view_goes : (parts : List FetchedSection) (count : ℕ) (state : State) → count ≡ length new.realm.notices
+      → sections_of state ≡ fold with_part no_sections parts
+      → Continues old new Any (FetchesAll user all_sections (Some parts)) → Continues old new Any (Plays (View user) (Viewed count state))
+  view_goes parts count state count_is state_is fetches before at =
+      let there = fetches before at in
+      let after = there.0 in
+      let now = there.1 in
+      let is = now.holds.1 in
+      let are = fetched_parts user parts before (subst (λ (h : History). IsLegalRealm h.realm) is now.fed.realm) in
+      let same : commands after.realm ≡ commands before.realm = ap (λ (h : History). commands h.realm) is ∙ fetches_commands user parts before in
+      let number : length (commands before.realm) ≡ count = ap (λ (list : List Accepted). length list) (sym same) ∙ sym now.represents.realm.count ∙ sym count_is in (
+        after,
+        record {
+          represents = now.represents;
+          fed = now.fed;
+          holds = record {
+            parts = parts;
+            in_order = now.holds.0;
+            shown = subst (λ (n : ℕ). AreShown n (sections_of state) parts) number
+                (subst (λ (s : SomeSections). AreShown (length (commands before.realm)) s parts) (sym state_is) (shown_view user (commands before.realm) parts now.holds.0 are));
+            fetches = is;
+          };
+        },
+      )

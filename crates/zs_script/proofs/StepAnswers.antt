@@ -1,0 +1,64 @@
+-- What is answered for the words of a poll and of a registration.
+use Rattle.std.proofs.Common.{◌≡◌, ℕ, ◌≤◌, ◌<◌, List, [], ◌∷◌, length, Bor, Ok, Err, refl, arith}
+use Rattle.ev_base.specs.declared.ids.QueueId.{QueueId}
+use Rattle.ev_base.specs.declared.ids.UserId.{UserId}
+use Rattle.ev_types.specs.declared.kind.Types.{Types}
+use Rattle.ev_types.specs.declared.section.Section.{Section}
+use Rattle.zs_script.specs.declared.names.LineName.TheVariants as line
+use Rattle.zs_script.specs.declared.reading.LineFault.TheVariants.{NotAStep, NoMemory}
+use Rattle.zs_script.specs.declared.step.Step.{Step}
+use Rattle.zs_script.specs.declared.step.Step.TheVariants.{Register}
+use Rattle.zs_script.specs.Grammar.{RestSpells}
+use Rattle.zs_script.specs.Lists.{IsTypes, IsFetch}
+use Rattle.zs_script.specs.Numbers.{IsUser, IsQueue}
+use Rattle.zs_script.specs.Readings.{ReadsStep, pointed}
+use Rattle.zs_script.proofs.Failing.{word}
+
+-- a poll whose second word is no queue
+pub no_queue : (words : List (Bor (List ℕ))) → 3 ≤ length words → length words < 4 → ((queue : QueueId) → IsQueue (word words 1) queue → ⊥) → ReadsStep (RestSpells 0 line.Poll (pointed words)) (Err NotAStep)
+no_queue [] least below none = absurd (omega arith)
+no_queue (a ∷ []) least below none = absurd (omega arith)
+no_queue (a ∷ b ∷ []) least below none = absurd (omega arith)
+no_queue (a ∷ b ∷ c ∷ []) least below none = record {
+  step = tt;
+  not_a_step = λ fault step spells. none spells.1 spells.4;
+  no_memory = λ fault. cc;
+}
+no_queue (a ∷ b ∷ c ∷ d ∷ rest) least below none = absurd (omega arith)
+
+-- a registration of which some word spells nothing
+pub no_register : (words : List (Bor (List ℕ))) → 3 ≤ length words → length words < 4 → ((user : UserId) (sent : Types) (asked : List Section) → IsUser (word words 0) user → IsTypes (word words 1) sent → IsFetch sent (word words 2) asked → ⊥) → ReadsStep (RestSpells 0 line.Register (pointed words)) (Err NotAStep)
+no_register [] least below none = absurd (omega arith)
+no_register (a ∷ []) least below none = absurd (omega arith)
+no_register (a ∷ b ∷ []) least below none = absurd (omega arith)
+no_register (a ∷ b ∷ c ∷ []) least below none = record {
+  step = tt;
+  not_a_step = λ fault step spells. none spells.0 spells.1 spells.2 spells.3 spells.4 spells.5;
+  no_memory = λ fault. cc;
+}
+no_register (a ∷ b ∷ c ∷ d ∷ rest) least below none = absurd (omega arith)
+
+-- a registration for which memory ran out
+pub register_out_of_memory : (words : List (Bor (List ℕ))) (user : UserId) → 3 ≤ length words → length words < 4 → IsUser (word words 0) user → (sent : Types) × IsTypes (word words 1) sent → ((sent : Types) → (asked : List Section) × IsFetch sent (word words 2) asked) → ReadsStep (RestSpells 0 line.Register (pointed words)) (Err NoMemory)
+register_out_of_memory [] user least below is types fetch = absurd (omega arith)
+register_out_of_memory (a ∷ []) user least below is types fetch = absurd (omega arith)
+register_out_of_memory (a ∷ b ∷ []) user least below is types fetch = absurd (omega arith)
+register_out_of_memory (a ∷ b ∷ c ∷ []) user least below is types fetch = record {
+  step = tt;
+  not_a_step = λ fault. cc;
+  no_memory = λ fault. let asked = fetch types.0 in
+      (Register user types.0 asked.0, (user, types.0, asked.0, is, types.1, asked.1, refl), tt);
+}
+register_out_of_memory (a ∷ b ∷ c ∷ d ∷ rest) user least below is types fetch = absurd (omega arith)
+
+-- a registration that is spelled
+pub register_made : (words : List (Bor (List ℕ))) (user : UserId) (step : Step) → 3 ≤ length words → length words < 4 → IsUser (word words 0) user → (sent : Types) × (asked : List Section) × IsTypes (word words 1) sent × IsFetch sent (word words 2) asked × (step ≡ Register user sent asked) → ReadsStep (RestSpells 0 line.Register (pointed words)) (Ok step)
+register_made [] user step least below is made = absurd (omega arith)
+register_made (a ∷ []) user step least below is made = absurd (omega arith)
+register_made (a ∷ b ∷ []) user step least below is made = absurd (omega arith)
+register_made (a ∷ b ∷ c ∷ []) user step least below is made = record {
+  step = (user, made.0, made.1, is, made.2, made.3, made.4);
+  not_a_step = λ fault. cc;
+  no_memory = λ fault. cc;
+}
+register_made (a ∷ b ∷ c ∷ d ∷ rest) user step least below is made = absurd (omega arith)

@@ -1,0 +1,5 @@
+use Rattle.zw_laws.proofs.FedSteps.{fed_traces_stay_fed}
+use Rattle.zw_laws.proofs.laws.fed_traces_stay_fed.Goals as goal
+
+pub returns : goal.returns
+returns c = fed_traces_stay_fed

@@ -1,5 +1,0 @@
-use Rattle.std.proofs.Common.{◌≡◌, take}
-use Rattle.zw_realm.proofs.realm.RealmCore.taken.Given as goal
-
-abbrev pub invariant-loop-notice : goal.invariant-loop-notice
-invariant-loop-notice l = l.list.items ≡ take l.notice-index l.notice-items

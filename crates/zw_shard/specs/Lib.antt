@@ -1,2 +1,0 @@
-pub mod ShardData
-pub mod ShardStanding
