@@ -1,22 +1,9 @@
 -- Parts by their sections.
-use Rattle.std.proofs.Common.{◌≡◌, ◌∙◌, Bool, true, false, if◌then◌else◌, ◌&&◌, true≢false, List, ap, sym, refl}
+use Rattle.std.proofs.Common.{◌≡◌, ◌∙◌, Bool, true, false, if◌then◌else◌, ◌&&◌, List, ap, refl}
 use Rattle.std.specs.List.{list_any}
 use Rattle.ev_types.specs.declared.section.Section.{Section}
-use Rattle.ev_types.specs.declared.section.Section.TheVariants as section
 use Rattle.ev_types.specs.OneSection.{same_section}
-
--- two sections that are the same are one
-pub same_is : (which other : Section) → same_section which other ≡ true → which ≡ other
-same_is section.Realm section.Realm same = refl
-same_is section.RealmUsers section.RealmUsers same = refl
-same_is section.Streams section.Streams same = refl
-same_is section.Subscriptions section.Subscriptions same = refl
-same_is section.Subscribers section.Subscribers same = refl
-same_is section.Messages section.Messages same = refl
-same_is section.Reactions section.Reactions same = refl
-same_is section.StarredMessages section.StarredMessages same = refl
-same_is section.UnreadMessages section.UnreadMessages same = refl
-same_is which other same = absurd (true≢false (sym same))
+use Rattle.ev_types.proofs.SectionLemmas.{same_section_is}
 
 module _ {X : Type 0} (asked : List Section) (which own : Section) (new old : X) where
   -- a section that isn't asked for is not put
@@ -29,7 +16,7 @@ module _ {X : Type 0} (asked : List Section) (which own : Section) (new old : X)
 
       go : (same : Bool) → same_section which own ≡ same → old ≡ (if list_any (same_section which) asked && same then new else old)
       go true is =
-          let off : list_any (same_section which) asked ≡ false = ap (λ (s : Section). list_any (same_section s) asked) (same_is which own is) ∙ unasked in
+          let off : list_any (same_section which) asked ≡ false = ap (λ (s : Section). list_any (same_section s) asked) (same_section_is which own is) ∙ unasked in
           rw off refl
       go false is = both_off (list_any (same_section which) asked)
 
@@ -45,6 +32,6 @@ module _ {X : Type 0} (asked : List Section) (which own : Section) (new old : X)
       go : (same : Bool) → same_section which own ≡ same
           → (if same then new else old) ≡ (if list_any (same_section which) asked && same then new else old)
       go true is =
-          let asks : list_any (same_section which) asked ≡ true = ap (λ (s : Section). list_any (same_section s) asked) (same_is which own is) ∙ on in
+          let asks : list_any (same_section which) asked ≡ true = ap (λ (s : Section). list_any (same_section s) asked) (same_section_is which own is) ∙ on in
           rw asks refl
       go false is = both_off (list_any (same_section which) asked)

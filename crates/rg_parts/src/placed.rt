@@ -4,7 +4,7 @@ ghost use Rattle.std.specs.Prelude.{◌≡◌, if◌then◌else◌};
 ghost use Rattle.ev_types.specs.OneSection.{rows_of, same_section};
 ghost use Rattle.ev_types.specs.Sections.{sections_of};
 ghost use Rattle.ev_types.specs.declared.section.Section.{Section};
-ghost use Rattle.rg_parts.specs.Placed.{own_section};
+ghost use Rattle.rg_parts.specs.Placed.{no_sections, own_section, with_rows};
 
 use ev_types::{Rows, Section, State};
 
@@ -27,7 +27,10 @@ pub fn own_section(rows: &Rows) -> Section
 
 /// A state in which no section is present.
 pub fn empty_state() -> State
-    ensures { (which : Section) → rows_of which (sections_of result) ≡ None }
+    ensures {
+        whole { sections_of result ≡ no_sections }
+        none { (which : Section) → rows_of which (sections_of result) ≡ None }
+    }
 {
     State {
         realm: None,
@@ -44,8 +47,11 @@ pub fn empty_state() -> State
 
 /// Puts the rows into the state as the section whose rows they are, in place of those that it had.
 pub fn with_section(state: &mut State, rows: Rows)
-    ensures { (which : Section) → rows_of which (sections_of state.new)
-        ≡ (if same_section which (own_section rows) then Some rows else rows_of which (sections_of state.old)) }
+    ensures {
+        whole { sections_of state.new ≡ with_rows rows (sections_of state.old) }
+        own { (which : Section) → rows_of which (sections_of state.new)
+            ≡ (if same_section which (own_section rows) then Some rows else rows_of which (sections_of state.old)) }
+    }
 {
     match rows {
         Rows::Realm(realm) => state.realm = Some(realm),

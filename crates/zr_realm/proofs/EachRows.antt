@@ -13,7 +13,7 @@ use Rattle.ev_rows.proofs.PlaceLemmas.{lookup-below}
 use Rattle.ev_rows.proofs.RowLemmas.{at_itself, at_same, row_at-filter, row_at-insert_entry, row_at-remove_entry}
 use Rattle.zr_types.specs.Effects.{changed_at, without}
 use Rattle.zr_types.specs.Sound.{CountFrom, EachRow, TextsDiffer}
-use Rattle.zr_realm.proofs.Resolved.{row_at-changed_at}
+use Rattle.zr_types.proofs.ChangedRows.{row_at-changed_at}
 
 module _ {K V : Type 0} {cmp : K → K → Ordering} (order : KeyOrder cmp) where
   -- each row of edited rows

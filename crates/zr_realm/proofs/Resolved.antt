@@ -40,28 +40,9 @@ use Rattle.zr_realm.specs.Parts.{effect_by_ids, mark_effect_by_ids, messages_of,
 use Rattle.zr_realm.proofs.Accepted.{IsAccepted, first_none}
 use Rattle.zr_types.specs.Commands.{bytes_of, differing, direct_receivers, moving, stream_meant, stream_receivers, texts_of, topic_moved, moves_with, same_stream_place, stream_of_place, target_of, topic_of_place}
 use Rattle.zr_types.specs.Checks.{given_or, ids_of, numbers_of_messages, numbers_of_users, resolved, resolved_post, stored_texts}
+use Rattle.zr_types.proofs.ChangedRows.{row_at-changed_at}
 
 module _ {K V : Type 0} {cmp : K → K → Ordering} (order : KeyOrder cmp) where
-  -- the row of a key after a change at a key
-  pub row_at-changed_at : (key : K) (change : V → V) (rows : List (K × V)) (q : K)
-      → row_at cmp (changed_at cmp key change rows) q ≡ cond (is_at (cmp q) key) (option_map change (row_at cmp rows q)) (row_at cmp rows q)
-  row_at-changed_at key change rows q = go (row_at cmp rows key) refl (is_at (cmp q) key) refl
-    where
-      here : (cell : Option V) → row_at cmp rows key ≡ cell → is_at (cmp q) key ≡ true → row_at cmp rows q ≡ cell
-      here cell is found = ap (λ k. row_at cmp rows k) (at_same order q key found) ∙ is
-
-      go : (cell : Option V) → row_at cmp rows key ≡ cell → (at : Bool) → is_at (cmp q) key ≡ at
-          → row_at cmp (option_map_or (λ old. insert_entry cmp rows key (change old)) cell rows) q ≡ cond at (option_map change (row_at cmp rows q)) (row_at cmp rows q)
-      go None is true found = here None is found ∙ sym (ap (option_map change) (here None is found))
-      go None is false missed = refl
-      go (Some old) is true found =
-          row_at-insert_entry order rows key (change old) q
-          ∙ ap (λ at. cond at (Some (change old)) (row_at cmp rows q)) found
-          ∙ sym (ap (option_map change) (here (Some old) is found))
-      go (Some old) is false missed =
-          row_at-insert_entry order rows key (change old) q
-          ∙ ap (λ at. cond at (Some (change old)) (row_at cmp rows q)) missed
-
   module _ (f g : V → V) (Good : V → Type 0) (same : (v : V) → Good v → f v ≡ g v) (stays : (v : V) → Good v → Good (f v)) where
     -- the rows of these keys are good
     abbrev AreGood : List (K × V) → List K → Type 0
@@ -70,7 +51,7 @@ module _ {K V : Type 0} {cmp : K → K → Ordering} (order : KeyOrder cmp) wher
     good_after : (key : K) (rows : List (K × V)) → ((v : V) → row_at cmp rows key ≡ Some v → Good v) → (keys : List K) → AreGood rows keys → AreGood (changed_at cmp key f rows) keys
     good_after key rows here [] good = tt
     good_after key rows here (other ∷ keys) good = (
-      λ v is. go v (is_at (cmp other) key) (row_at cmp rows other) refl (sym (row_at-changed_at key f rows other) ∙ is),
+      λ v is. go v (is_at (cmp other) key) (row_at cmp rows other) refl (sym (row_at-changed_at order key f rows other) ∙ is),
       good_after key rows here keys good.1,
     )
       where

@@ -29,14 +29,18 @@ impl Model for ReceiptBuffer {
 
 impl ReceiptBuffer {
     /// A buffer without room.
-    pub fn new(alloc: Global) -> ReceiptBuffer {
+    pub fn new(alloc: Global) -> ReceiptBuffer
+        ensures room { result ≡ 0 }
+    {
         ReceiptBuffer {
             rows: Vec::new(alloc),
         }
     }
 
     /// Another buffer without room.
-    pub fn copy(&self) -> ReceiptBuffer {
+    pub fn copy(&self) -> ReceiptBuffer
+        ensures room { result ≡ 0 }
+    {
         ReceiptBuffer::new(*self.rows.allocator())
     }
 

@@ -26,7 +26,8 @@ use Rattle.zr_types.specs.Effects.{changed_at, effect, mark_effect, next_message
 use Rattle.zr_types.specs.Sound.{user_number}
 use Rattle.zr_types.specs.Tables.{Tables}
 use Rattle.zr_types.specs.Visibility.{is_active_user}
-use Rattle.zw_views.proofs.RowChanges.{row_at-changed_at, row_at-more}
+use Rattle.zr_types.proofs.ChangedRows.{row_at-changed_at}
+use Rattle.zw_views.proofs.RowChanges.{row_at-more}
 use Rattle.zw_traces.specs.RealmTrace.{Accepted, deactivated_by, deactivated_user, is_active_after, prefix_of, state_of, commands, IsLegalRealm}
 use Rattle.zw_traces.specs.declared.realm.RealmStep.{RealmStep}
 use Rattle.zw_traces.specs.Account.{end_user, same_user}

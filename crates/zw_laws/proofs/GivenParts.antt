@@ -11,18 +11,7 @@ use Rattle.zw_traces.specs.declared.realm.RealmStep.{RealmStep}
 use Rattle.zw_traces.specs.FetchedSections.{part_of, first_missing, all_sections, needed}
 use Rattle.zw_traces.specs.RealmFeeds.{WereFetched, WasFetched, IsFrom}
 use Rattle.ev_types.specs.OneSection.{same_section}
-
-same_section_is : (a b : Section) → same_section a b ≡ true → a ≡ b
-same_section_is section.Realm section.Realm is = refl
-same_section_is section.RealmUsers section.RealmUsers is = refl
-same_section_is section.Streams section.Streams is = refl
-same_section_is section.Subscriptions section.Subscriptions is = refl
-same_section_is section.Subscribers section.Subscribers is = refl
-same_section_is section.Messages section.Messages is = refl
-same_section_is section.Reactions section.Reactions is = refl
-same_section_is section.StarredMessages section.StarredMessages is = refl
-same_section_is section.UnreadMessages section.UnreadMessages is = refl
-same_section_is a b is = cc
+use Rattle.ev_types.proofs.SectionLemmas.{same_section_is}
 
 pub found_part : (which : Section) (given : Option FetchedSection) → is_none given ≡ false → (part : FetchedSection) × (given ≡ Some part)
 found_part which None is = cc

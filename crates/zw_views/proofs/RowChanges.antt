@@ -1,4 +1,4 @@
--- Lists of rows after a change at a key, and rows that are numbered one by one.
+-- Rows that a change at a key leaves alike, and rows that are numbered one by one.
 use Rattle.std.proofs.Common.{◌≡◌, ℕ, ◌+◌, ◌<◌, Bool, true, false, cond, List, [], ◌∷◌, ◌++◌, length, fold, is_eq, Less, Equal, Greater, Ordering, nat_cmp, Option, None, Some, option_map, refl, ap, sym, subst, ◌∙◌, arith}
 use Rattle.std.specs.Option.{option_map_or}
 use Rattle.std.specs.Ordering.{match_ordering}
@@ -11,36 +11,9 @@ use Rattle.ev_rows.proofs.PlaceLemmas.{lookup-below}
 use Rattle.ev_rows.proofs.RowLemmas.{at_same, row_at-insert_entry}
 use Rattle.zr_types.specs.Sound.{CountFrom}
 use Rattle.zr_types.specs.Effects.{changed_at}
+use Rattle.zr_types.proofs.ChangedRows.{row_at-changed_at}
 
 module _ {K V : Type 0} {cmp : K → K → Ordering} (order : KeyOrder cmp) where
-  -- a change at a key leaves the rows rising
-  pub rise-changed_at : (key : K) (change : V → V) (rows : List (K × V)) → SortedByKey cmp rows → SortedByKey cmp (changed_at cmp key change rows)
-  rise-changed_at key change rows rise = go (row_at cmp rows key)
-    where
-      go : (cell : Option V) → SortedByKey cmp (option_map_or (λ row. insert_entry cmp rows key (change row)) cell rows)
-      go None = rise
-      go (Some old) = rise-insert_entry order.total key (change old) rows rise
-
-  -- and changes that row alone
-  pub row_at-changed_at : (key : K) (change : V → V) (rows : List (K × V)) (q : K)
-      → row_at cmp (changed_at cmp key change rows) q ≡ cond (is_at (cmp q) key) (option_map change (row_at cmp rows q)) (row_at cmp rows q)
-  row_at-changed_at key change rows q = go (row_at cmp rows key) refl (is_at (cmp q) key) refl
-    where
-      here : (cell : Option V) → row_at cmp rows key ≡ cell → is_at (cmp q) key ≡ true → row_at cmp rows q ≡ cell
-      here cell is found = ap (λ k. row_at cmp rows k) (at_same order q key found) ∙ is
-
-      go : (cell : Option V) → row_at cmp rows key ≡ cell → (at : Bool) → is_at (cmp q) key ≡ at
-          → row_at cmp (option_map_or (λ old. insert_entry cmp rows key (change old)) cell rows) q ≡ cond at (option_map change (row_at cmp rows q)) (row_at cmp rows q)
-      go None is true found = here None is found ∙ sym (ap (option_map change) (here None is found))
-      go None is false missed = refl
-      go (Some old) is true found =
-          row_at-insert_entry order rows key (change old) q
-          ∙ ap (λ at. cond at (Some (change old)) (row_at cmp rows q)) found
-          ∙ sym (ap (option_map change) (here (Some old) is found))
-      go (Some old) is false missed =
-          row_at-insert_entry order rows key (change old) q
-          ∙ ap (λ at. cond at (Some (change old)) (row_at cmp rows q)) missed
-
   -- cells that hold the same thing but for a change that keeps R
   abbrev pub Alike : (V → V → Type 0) → Option V → Option V → Type 0
   Alike R None None = Unit {0}
@@ -62,7 +35,7 @@ module _ {K V : Type 0} {cmp : K → K → Ordering} (order : KeyOrder cmp) wher
   pub alike-changed_at : (R : V → V → Type 0) → ((a : V) → R a a) → (change : V → V) → ((a : V) → R a (change a)) → (key : K) (rows : List (K × V)) (q : K)
       → Alike R (row_at cmp rows q) (row_at cmp (changed_at cmp key change rows) q)
   alike-changed_at R keeps change changes key rows q =
-      subst (Alike R (row_at cmp rows q)) (sym (row_at-changed_at key change rows q)) (go (is_at (cmp q) key) (row_at cmp rows q))
+      subst (Alike R (row_at cmp rows q)) (sym (row_at-changed_at order key change rows q)) (go (is_at (cmp q) key) (row_at cmp rows q))
     where
       go : (at : Bool) (cell : Option V) → Alike R cell (cond at (option_map change cell) cell)
       go true None = tt

@@ -32,7 +32,8 @@ use Rattle.zr_types.specs.Sound.{CountFrom, TablesSorted, user_number, stream_nu
 use Rattle.zr_types.specs.Effects.{effect, people_effect, stream_effect, post_effect, mark_effect, changed_at, with_message, with_messages, with_user, with_stream, new_subscription, new_receipt, stream_with, subscription_with, receipt_with, sends}
 use Rattle.zr_types.specs.Commands.{target_of, moving, differing, stream_meant, stream_receivers, direct_receivers}
 use Rattle.ev_types.specs.Comparable.{KeepsDirect}
-use Rattle.zw_views.proofs.RowChanges.{rise-changed_at, Alike, alike-changed_at, alike-all, rise-fold, rise-count, count-append, count-changed_at, row_at-more}
+use Rattle.zr_types.proofs.ChangedRows.{rise-changed_at}
+use Rattle.zw_views.proofs.RowChanges.{Alike, alike-changed_at, alike-all, rise-fold, rise-count, count-append, count-changed_at, row_at-more}
 
 -- what events never name: a user's email, and of a message who sent it and when, and a direct message's place
 abbrev pub SameEmail : User → User → Type 0

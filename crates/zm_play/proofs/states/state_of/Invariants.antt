@@ -1,6 +1,7 @@
 use Rattle.std.proofs.Common.{◌≡◌, fold}
 use Rattle.ev_types.specs.Sections.{sections_of}
-use Rattle.zm_play.specs.States.{no_sections, with_part}
+use Rattle.rg_parts.specs.Placed.{no_sections}
+use Rattle.zm_play.specs.States.{with_part}
 use Rattle.zm_play.proofs.states.state_of.Given as goal
 
 abbrev pub invariant-loop-part : goal.invariant-loop-part
