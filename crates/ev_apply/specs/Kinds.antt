@@ -2,7 +2,6 @@
 use Rattle.ev_types.specs.Writes.{Write, put, patch, drop_row, drop_under}
 use Rattle.ev_apply.specs.declared.row_write.WriteKind.{WriteKind}
 use Rattle.ev_apply.specs.declared.row_write.WriteKind.TheVariants.{Put, Patch, DropRow, DropUnder}
-use Rattle.ev_apply.specs.declared.row_write.Never.{Never}
 use Rattle.ev_apply.specs.declared.message_field.MessageFieldKind.{MessageFieldKind}
 use Rattle.ev_apply.specs.declared.message_field.MessageFieldKind.TheVariants as kind
 use Rattle.ev_types.specs.EventWrites.{MessageField, to_place, to_content, to_flag}
@@ -13,10 +12,6 @@ write_of_kind (Put key value) = put key value
 write_of_kind (Patch key field) = patch key field
 write_of_kind (DropRow key) = drop_row key
 write_of_kind (DropUnder prefix) = drop_under prefix
-
--- there is no value of this type
-abbrev pub of_nothing : Never → ⊥
-of_nothing nothing = elim nothing [ ]
 
 -- the field of a message of this kind
 abbrev pub field_of_kind : MessageFieldKind → MessageField

@@ -99,19 +99,6 @@ impl<K, V, F, P> RowWrite<K, V, F, P> {
     }
 }
 
-#[derive(Drop)]
-enum Never {}
-
-/// Of a section whose rows have no field to set, or are never dropped by a prefix.
-#[derive(Drop)]
-pub struct NoField {
-    never: Never,
-}
-
-impl Model for NoField {
-    ghost use Rattle.ev_apply.specs.Kinds.{of_nothing};
-
-    ghost Value = { ⊥ };
-
-    ghost view = { λ it. of_nothing it.never };
-}
+/// Of a section whose rows have no field to set, or are never dropped by a prefix. No event makes a
+/// write of it.
+pub type NoField = ();

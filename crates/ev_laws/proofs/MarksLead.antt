@@ -19,7 +19,7 @@ use Rattle.ev_types.specs.declared.event.Event.{Event}
 use Rattle.ev_types.specs.declared.event.Event.TheVariants.{MessageMoved, Flags, MessageGone}
 use Rattle.ev_types.specs.Sections.{Sections, ReactionKey}
 use Rattle.ev_types.specs.Writes.{Write, put, drop_row, Rules, cell_after, cell_after_write}
-use Rattle.ev_types.specs.EventWrites.{starred_rules, starred_writes, starred_of, unread_rules, unread_writes, unread_of}
+use Rattle.ev_types.specs.EventWrites.{NoField, starred_rules, starred_writes, starred_of, unread_rules, unread_writes, unread_of}
 use Rattle.ev_types.specs.Applying.{rows_applied}
 use Rattle.ev_types.specs.Changes.{full_message, arrivals, KeptMessage, StreamPlace, moved_to, move_events, edits, turned, flag_change, flag_event, flag_events, reaction_events, changes_between}
 use Rattle.ev_types.specs.Comparable.{Comparable}
@@ -51,7 +51,7 @@ module _ (q : MessageId) where
   abbrev star_step : Option (Unit {0}) → Event → Option (Unit {0})
   star_step = cell_step starred_rules starred_writes q
 
-  abbrev put_star : (reactions : List (ReactionKey × Unit {0})) → MessageId × ShownMessage → List (Write MessageId (Unit {0}) ⊥ ⊥)
+  abbrev put_star : (reactions : List (ReactionKey × Unit {0})) → MessageId × ShownMessage → List (Write MessageId (Unit {0}) NoField NoField)
   put_star reactions row = starred_of (full_message reactions row)
 
   star_put : (b : Bool) (c : Option (Unit {0})) → cell_after starred_rules q c (cond b (put q tt ∷ []) []) ≡ cond b (Some tt) c
@@ -171,7 +171,7 @@ module _ (q : MessageId) where
   abbrev unread_step : Option Place → Event → Option Place
   unread_step = cell_step unread_rules unread_writes q
 
-  abbrev put_unread : (reactions : List (ReactionKey × Unit {0})) → MessageId × ShownMessage → List (Write MessageId Place Place ⊥)
+  abbrev put_unread : (reactions : List (ReactionKey × Unit {0})) → MessageId × ShownMessage → List (Write MessageId Place Place NoField)
   put_unread reactions row = unread_of (full_message reactions row)
 
   unread_put : (b : Bool) (p : Place) (c : Option Place) → cell_after unread_rules q c (cond b [] (put q p ∷ [])) ≡ cond b c (Some p)

@@ -19,7 +19,7 @@ use Rattle.ev_types.specs.declared.event.Event.{Event}
 use Rattle.ev_types.specs.declared.event.Event.TheVariants.{MessageGone, ReactionAdd, ReactionRemove}
 use Rattle.ev_types.specs.Sections.{Sections, ReactionKey}
 use Rattle.ev_types.specs.Writes.{Write, put, drop_under, cell_after, cell_after_write}
-use Rattle.ev_types.specs.EventWrites.{reaction_rules, reaction_writes, reactions_of}
+use Rattle.ev_types.specs.EventWrites.{NoField, reaction_rules, reaction_writes, reactions_of}
 use Rattle.ev_types.specs.Applying.{rows_applied}
 use Rattle.ev_types.specs.Changes.{full_message, arrivals, KeptMessage, move_events, edits, flag_events, is_kept, of_kept, reaction_events, changes_between}
 use Rattle.ev_types.specs.Comparable.{Comparable}
@@ -42,7 +42,7 @@ module _ (q : ReactionKey) where
   abbrev step : Cell → Event → Cell
   step = cell_step reaction_rules reaction_writes q
 
-  abbrev put_all : MessageId → List (UserId × List ℕ) → List (Write ReactionKey (Unit {0}) ⊥ MessageId)
+  abbrev put_all : MessageId → List (UserId × List ℕ) → List (Write ReactionKey (Unit {0}) NoField MessageId)
   put_all message reactions = map (λ reaction. put (message, reaction.0, reaction.1) tt) reactions
 
   -- a key of another message isn't this one

@@ -28,9 +28,10 @@ use Rattle.ev_types.specs.declared.event.Event.TheVariants.{RealmUpdate, UserAdd
 use Rattle.ev_types.specs.Sections.{ReactionKey}
 use Rattle.ev_types.specs.Writes.{Write, put, patch, drop_row, drop_under, Rules}
 
--- of a section whose rows have no fields to set, or whose rows are never dropped by prefix
+-- of a section whose rows have no fields to set, or whose rows are never dropped by prefix: it changes no row, and no key is
+-- under it
 abbrev pub NoField : Type 0
-NoField = ⊥
+NoField = Unit {0}
 
 -- the realm
 abbrev pub realm_with : RealmField → ShownRealm → ShownRealm

@@ -230,7 +230,7 @@ fn add(tables: &mut Tables, alloc: Global, extra: Extra) -> Result<(), Fail> {
 }
 
 fn are_sound(alloc: Global, tables: Tables, sent: u64) -> Result<bool, Fail> {
-    Ok(realm_of(alloc, tables, sent)?.is_some())
+    Ok(realm_of(alloc, tables, 0, sent)?.is_some())
 }
 
 // Whether the sample with this addition makes a realm.

@@ -16,7 +16,7 @@ use std::test::Fail;
 use zr_marks::Marks;
 use zr_people::Users;
 use zr_posts::Posts;
-use zr_realm::Realm;
+use zr_realm::{Counts, Realm};
 use zr_streams::Streams;
 use zr_types::{Message, RealmRow, Receipt, Stream, Subscription, User};
 
@@ -82,24 +82,35 @@ pub struct Tables {
 pub fn of_sample<R, F: Fn(&Realm) -> Result<R, Fail>>(alloc: Global, tell: F) -> Result<R, Fail>
     requires calls { F.IsAlwaysCallable tell }
 {
-    let realm = sample_realm(alloc)?;
+    let realm = sample_realm(alloc, 0)?;
     tell(&realm)
 }
 
-fn sample_realm(alloc: Global) -> Result<Realm, Fail> {
-    let made = realm_of(alloc, sample_tables(alloc)?, SENT)?;
+/// The sample after so many commits.
+pub fn sample_realm(alloc: Global, commits: u64) -> Result<Realm, Fail> {
+    let made = realm_of(alloc, sample_tables(alloc)?, commits, SENT)?;
     Ok(made.ok_or("the sample is sound")?)
 }
 
-/// The realm of these tables, with so many messages sent.
-pub fn realm_of(alloc: Global, tables: Tables, sent: u64) -> Result<Option<Realm>, NoMemory> {
+/// The realm of these tables, after so many commits and with so many messages sent.
+pub fn realm_of(
+    alloc: Global,
+    tables: Tables,
+    commits: u64,
+    sent: u64,
+) -> Result<Option<Realm>, NoMemory> {
+    let counts = Counts {
+        commits,
+        sent,
+        text_bytes: 0,
+    };
     let Tables {
         people,
         streams,
         posts,
         marks,
     } = tables;
-    Realm::from_tables(alloc, people, streams, posts, marks, sent)
+    Realm::from_tables(alloc, people, streams, posts, marks, counts)
 }
 
 pub fn sample_tables(alloc: Global) -> Result<Tables, Fail> {

@@ -5,6 +5,7 @@ use Rattle.zr_streams.specs.Tables.{StreamTables}
 use Rattle.zr_posts.specs.Tables.{PostTables}
 use Rattle.zr_marks.specs.Tables.{MarkTables}
 use Rattle.zr_types.specs.Tables.{Tables, RealmState}
+use Rattle.zr_realm.specs.declared.counts.Counts.{Counts}
 use Rattle.zr_realm.specs.declared.rooms.Rooms.{Rooms}
 
 pub record RealmValue : Type 0 where
@@ -36,6 +37,6 @@ module _ (people : PeopleTables) (streams : StreamTables) (posts : PostTables) (
     merged = merged;
   }
 
--- tables that come from elsewhere, with so many messages ever sent
-abbrev pub stored_state : Tables → ℕ → RealmState
-stored_state tables sent = record { tables = tables; commits = 0; sent = sent; text_bytes = 0 }
+-- tables that come from elsewhere, with what was counted
+abbrev pub stored_state : Tables → Counts → RealmState
+stored_state tables counts = record { tables = tables; commits = counts.commits; sent = counts.sent; text_bytes = counts.text_bytes }

@@ -1,4 +1,4 @@
-//! What a commit adds to the counts of a realm.
+//! What a realm counts, and what a commit adds to it.
 
 ghost use Rattle.std.specs.Prelude.{◌≡◌, ◌<◌, ◌^◌, length};
 ghost use Rattle.zr_types.specs.declared.command.Command.{Command};
@@ -8,6 +8,15 @@ ghost use Rattle.zr_types.specs.Tables.{opening_tables};
 
 use ev_base::PlainText;
 use zr_types::{Command, MarkCommand, PeopleCommand, PostCommand, StreamCommand, SubField};
+
+/// What a realm counts: its commits, the messages that were ever sent, and the bytes of the texts that
+/// accepted commands carried.
+#[derive(Clone, Copy, Debug)]
+pub struct Counts {
+    pub commits: u64,
+    pub sent: u64,
+    pub text_bytes: u64,
+}
 
 /// How many messages the command sends.
 pub fn messages_sent(command: &Command) -> u64

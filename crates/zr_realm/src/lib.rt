@@ -15,5 +15,6 @@ mod tables;
 mod texts;
 mod visibility;
 
+pub use counts::Counts;
 pub use laws::{effects_keep_tables_sound, tables_are_sorted, tables_are_sound};
 pub use realm::Realm;

@@ -10,7 +10,7 @@ ghost use Rattle.zr_realm.specs.Room.{HasRoom};
 ghost use Rattle.zr_realm.specs.Values.{stored_state, tables_of};
 ghost use Rattle.zr_types.specs.Visibility.{is_active_user, is_subscribed, is_user};
 
-use crate::counts::{messages_sent, text_bytes};
+use crate::counts::{Counts, messages_sent, text_bytes};
 use crate::merged::ReceiptBuffer;
 use crate::rooms::new_rows;
 use crate::tables::RealmTables;
@@ -64,20 +64,19 @@ impl Realm {
         })
     }
 
-    /// A realm of these tables, with so many messages ever sent, before any commit. There is none
-    /// where they are not sound.
+    /// A realm of these tables, with what it counted. There is none where they are not sound.
     pub fn from_tables(
         alloc: Global,
         people: Users,
         streams: Streams,
         posts: Posts,
         marks: Marks,
-        sent: u64,
+        counts: Counts,
     ) -> Result<Option<Realm>, NoMemory>
         ensures state { IfOk result (λ made. IfSome made
-            (λ realm. realm.state ≡ stored_state (tables_of people streams posts marks) sent)) }
+            (λ realm. realm.state ≡ stored_state (tables_of people streams posts marks) counts)) }
         ensures sound { IfOk result
-            (λ made. IsSome made ↔ IsSound (tables_of people streams posts marks) sent) }
+            (λ made. IsSome made ↔ IsSound (tables_of people streams posts marks) counts.sent) }
     {
         let tables = RealmTables {
             people,
@@ -86,14 +85,14 @@ impl Realm {
             marks,
             merged: ReceiptBuffer::new(alloc),
         };
-        if !tables.are_sound(alloc, sent)? {
+        if !tables.are_sound(alloc, counts.sent)? {
             return Ok(None);
         }
         Ok(Some(Realm {
             tables,
-            commits: 0,
-            sent,
-            text_bytes: 0,
+            commits: counts.commits,
+            sent: counts.sent,
+            text_bytes: counts.text_bytes,
         }))
     }
 
