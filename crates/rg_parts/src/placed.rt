@@ -27,10 +27,8 @@ pub fn own_section(rows: &Rows) -> Section
 
 /// A state in which no section is present.
 pub fn empty_state() -> State
-    ensures {
-        whole { sections_of result ≡ no_sections }
-        none { (which : Section) → rows_of which (sections_of result) ≡ None }
-    }
+    ensures whole { sections_of result ≡ no_sections }
+    ensures none { (which : Section) → rows_of which (sections_of result) ≡ None }
 {
     State {
         realm: None,
@@ -47,11 +45,10 @@ pub fn empty_state() -> State
 
 /// Puts the rows into the state as the section whose rows they are, in place of those that it had.
 pub fn with_section(state: &mut State, rows: Rows)
-    ensures {
-        whole { sections_of state.new ≡ with_rows rows (sections_of state.old) }
-        own { (which : Section) → rows_of which (sections_of state.new)
-            ≡ (if same_section which (own_section rows) then Some rows else rows_of which (sections_of state.old)) }
-    }
+    ensures whole { sections_of state.new ≡ with_rows rows (sections_of state.old) }
+    ensures own { (which : Section) → rows_of which (sections_of state.new)
+        ≡ (if same_section which (own_section rows) then Some rows
+        else rows_of which (sections_of state.old)) }
 {
     match rows {
         Rows::Realm(realm) => state.realm = Some(realm),
