@@ -9,7 +9,7 @@ use Rattle.zm_run.specs.declared.runner.Runner.{Runner}
 use Rattle.zm_run.specs.declared.runner.Stop.{Stop}
 use Rattle.zm_run.specs.declared.runner.Stop.TheVariants.{BadLine, NoMemory}
 use Rattle.zm_run.specs.declared.status.Status.TheVariants as status
-use Rattle.zm_run.specs.Inputs.{AreLines, HasNoFeed, SplitsWhole, bytes_of, shards}
+use Rattle.zm_run.specs.Inputs.{AreLines, HasNoFeed, SplitsWhole, bytes_of, max_input_bytes, shards}
 use Rattle.zm_run.specs.RunEnds.{ReadSome, Replays, WroteSome}
 use Rattle.zm_run.specs.Running.{Grows, PlayedOn, PlayedToEnd, Running, Represents, StaysAsItWas, StoppedIn, pending_of}
 use Rattle.zm_run.specs.Stops.{status_of}
@@ -252,6 +252,18 @@ ends_at_fault left left' held held' runner input running no_feed = record {
   took = running.took;
   gave = running.gave;
   ends = read_some left left' held held' runner input running no_feed;
+}
+
+-- as many bytes were read as may be, and no end
+pub ends_too_long : (left left' held held' : Option (List ℕ)) (runner : Runner) (input : Input)
+    → Running left left' held held' runner input → HasNoFeed (pending_of input) → input.read ≡ max_input_bytes
+    → Replays status.InputTooLong left left' held held'
+ends_too_long left left' held held' runner input running no_feed full = record {
+  read = running.read;
+  written = running.written;
+  took = running.took;
+  gave = running.gave;
+  ends = (running.measured ∙ full, read_some left left' held held' runner input running no_feed);
 }
 
 -- memory was wanted before anything was read

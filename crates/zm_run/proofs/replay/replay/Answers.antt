@@ -1,6 +1,6 @@
 use Rattle.std.proofs.Common.{arith, subst, sym}
 use Rattle.zm_run.specs.Inputs.{HasNoFeed}
-use Rattle.zm_run.proofs.Ending.{ends_at_fault, ends_at_first, lines_counted, running_after_read, running_unread}
+use Rattle.zm_run.proofs.Ending.{ends_at_fault, ends_at_first, ends_too_long, lines_counted, running_after_read, running_unread}
 use Rattle.zm_run.proofs.replay.replay.Goals as goal
 
 pub returns-in_default-clause-replays : goal.returns-in_default-clause-replays
@@ -43,3 +43,9 @@ returns-in-Failed-clause-replays g c =
     let stays = c.in-Failed.ensures.filled in
     let running = running_unread _ _ _ _ _ c.loop-input.runner c.loop-input.input c.fill.new.self stays c.loop-input.invariant.running in
     ends_at_fault _ _ _ _ c.loop-input.runner c.fill.new.self running (subst (λ t. HasNoFeed t) (sym stays.pending) c.loop-input.invariant.no_feed)
+
+pub returns-clause-replays : goal.returns-clause-replays
+returns-clause-replays g c =
+    let bounded = c.loop-input.input.bounded in
+    let reached = c.loop-input-test.false in
+    ends_too_long _ _ _ _ c.loop-input.runner c.loop-input.input c.loop-input.invariant.running c.loop-input.invariant.no_feed (omega arith)
