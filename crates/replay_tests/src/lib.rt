@@ -4,6 +4,8 @@
 #[cfg(test)]
 mod checks;
 #[cfg(test)]
+mod message_stories;
+#[cfg(test)]
 mod ports;
 #[cfg(test)]
 mod run;

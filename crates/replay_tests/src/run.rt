@@ -1,7 +1,7 @@
 //! The run of a script, from the bytes that are read to the bytes that are written.
 
 use crate::checks::check_text;
-use crate::stories as story;
+use crate::{message_stories as later, stories as story};
 use ev_ports::{MemSink, MemSource};
 use std::alloc::{AllocError, Global};
 use std::process::Abort;
@@ -170,6 +170,53 @@ fn an_uncovered_section_is_answered(rt: HostRuntime) -> Result<(), Fail> {
     )
 }
 
+/// Checks what is printed for a script that goes on where two messages stand.
+fn check_later(rt: &impl Abort, alloc: Global, script: &str, told: &str) -> Result<(), Fail> {
+    let script = format!(in alloc; "{}{script}", later::TWO_MESSAGES)?;
+    let told = format!(in alloc; "{}{told}", later::TWO_MESSAGES_TOLD)?;
+    check_story(rt, alloc, &script, &told)
+}
+
+#[test]
+fn a_private_stream_is_renamed_for_its_subscribers(rt: HostRuntime) -> Result<(), Fail> {
+    check_later(
+        &rt,
+        rt.alloc(),
+        later::A_RENAME_OF_A_PRIVATE_STREAM,
+        later::A_RENAME_OF_A_PRIVATE_STREAM_TOLD,
+    )
+}
+
+#[test]
+fn each_refusal_is_told_where_messages_stand(rt: HostRuntime) -> Result<(), Fail> {
+    check_later(
+        &rt,
+        rt.alloc(),
+        later::REFUSALS_AFTER_MESSAGES,
+        later::REFUSALS_AFTER_MESSAGES_TOLD,
+    )
+}
+
+#[test]
+fn flags_are_told_around_a_deletion(rt: HostRuntime) -> Result<(), Fail> {
+    check_later(
+        &rt,
+        rt.alloc(),
+        later::FLAGS_AROUND_A_DELETION,
+        later::FLAGS_AROUND_A_DELETION_TOLD,
+    )
+}
+
+#[test]
+fn messages_are_regained_and_lost(rt: HostRuntime) -> Result<(), Fail> {
+    check_later(
+        &rt,
+        rt.alloc(),
+        later::MESSAGES_REGAINED,
+        later::MESSAGES_REGAINED_TOLD,
+    )
+}
+
 /// The bytes of a line, so many times, behind those of another.
 fn repeated(alloc: Global, first: &str, line: &str, times: u32) -> Result<Vec<u8>, AllocError> {
     let mut script = first.as_bytes().to_vec(alloc)?;
@@ -199,6 +246,51 @@ fn one_push_brings_more_than_256_notices(rt: HostRuntime) -> Result<(), Fail> {
     script.extend_from_slice(b"notice\npush 0\n")?;
     let replayed = replay_with_faults(rt.alloc(), &script, &[], &[])?;
     assert_eq!(rt; last_line(&replayed.1), "pushed 301");
+    Ok(())
+}
+
+/// A line with the numbers up to this one as a list.
+fn push_numbered(
+    script: &mut Vec<u8>,
+    alloc: Global,
+    before: &str,
+    last: u32,
+    after: &str,
+) -> Result<(), AllocError> {
+    script.extend_from_slice(before.as_bytes())?;
+    for number in 1..last {
+        script.extend_from_slice(format!(in alloc; "{number},")?.as_bytes())?;
+    }
+    script.extend_from_slice(format!(in alloc; "{last}{after}\n")?.as_bytes())?;
+    Ok(())
+}
+
+#[test]
+fn a_command_flags_1_000_messages_at_most(rt: HostRuntime) -> Result<(), Fail> {
+    let sent = "send_stream 1 1 t m\n";
+    let mut script = repeated(rt.alloc(), later::TWO_MESSAGES, sent, 999)?;
+    push_numbered(&mut script, rt.alloc(), "flags 1 add starred ", 1_001, "")?;
+    let replayed = replay_with_faults(rt.alloc(), &script, &[], &[])?;
+    assert_eq!(rt; last_line(&replayed.1), "refused 10 LimitReached");
+    Ok(())
+}
+
+/// A script that adds so many users.
+fn script_with_users(alloc: Global, last: u32) -> Result<Vec<u8>, AllocError> {
+    let mut script = ADD_ANN.as_bytes().to_vec(alloc)?;
+    for number in 2..=last {
+        let line = format!(in alloc; "user_add 1 u{number}@x.org u 400 k\n")?;
+        script.extend_from_slice(line.as_bytes())?;
+    }
+    Ok(script)
+}
+
+#[test]
+fn a_message_goes_to_100_users_at_most(rt: HostRuntime) -> Result<(), Fail> {
+    let mut script = script_with_users(rt.alloc(), 101)?;
+    push_numbered(&mut script, rt.alloc(), "send_dm 1 ", 101, " hi")?;
+    let replayed = replay_with_faults(rt.alloc(), &script, &[], &[])?;
+    assert_eq!(rt; last_line(&replayed.1), "refused 10 LimitReached");
     Ok(())
 }
 
