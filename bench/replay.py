@@ -1,12 +1,16 @@
 #!/usr/bin/env python3
-"""Times the replay of long scripts by the built program.
+"""Times the replay of made scripts by the built program.
 
-usage: replay.py PROGRAM [LINES ..]
+usage: replay.py PROGRAM [SCRIPT [LINES ..]]
 
-Build the program first: `rt run` in crates/zulip_main leaves it as out/zulip_main there. Each script adds a user,
-registers it, and then has renames, with an announcement, a push and a poll at the end of each hundred lines; a poll
-acknowledges what the one before answered. The scripts have 100,000 and 200,000 lines where no counts are given.
-Prints for each the time, the ratio to the one before, and the greatest memory of the program.
+Build the program first: `rt run` in crates/zulip_main leaves it as out/zulip_main there. Each SCRIPT has an announcement, a
+push and a poll at the end of each hundred lines:
+  renames   one user is renamed over and over; each poll acknowledges what the one before answered (100,000 and 200,000 lines)
+  people    fifty users and ten streams, with renames, subscriptions, unsubscriptions and changes of streams (500 and 1,000)
+  messages  twenty users and five streams: of a hundred lines 60 are messages, 25 flags, 10 reactions, and 5 edits, moves,
+            deletions and changes of people and streams (2,000 and 4,000)
+All three are timed where none is named. Prints for each count of lines the time, the ratio to the one before, and the greatest
+memory of the program so far.
 """
 import os
 import resource
@@ -15,15 +19,21 @@ import sys
 import tempfile
 import time
 
-DEFAULT_COUNTS = [100_000, 200_000]
 ROUND = 100
 
 
-def script(count):
-    """The lines of a script, so many in all."""
-    lines = ["user_add 0 ann@x.org Ann 100 k1", "notice", "push 0", "register 1 * realm_user"]
-    renames = 0
-    seen = -1
+def opened(users, streams):
+    """Lines that add users and streams, and register each user."""
+    lines = ["user_add 0 u1@x.org u1 100 k1"]
+    lines += [f"user_add 1 u{user}@x.org u{user} 400 k{user}" for user in range(2, users + 1)]
+    lines += [f"stream_create 1 s{stream} % public" for stream in range(1, streams + 1)]
+    lines += [f"subscribe 1 {stream} {user}" for stream in range(1, streams + 1) for user in range(2, users + 1, 2)]
+    return lines + ["notice", "push 0"] + [f"register {user} * *" for user in range(1, users + 1)]
+
+
+def rounds(lines, count, command, poll):
+    """Goes on to so many lines: commands by their number, and a poll by how many commands stood at the poll before it."""
+    turn = told = 0
     while len(lines) < count:
         place = len(lines) % ROUND
         if place == ROUND - 3:
@@ -31,12 +41,66 @@ def script(count):
         elif place == ROUND - 2:
             lines.append("push 0")
         elif place == ROUND - 1:
-            lines.append(f"poll 1 1.0 {seen}")
-            seen = renames - 1
+            lines.append(poll(told))
+            told = turn
         else:
-            renames += 1
-            lines.append(f"user_update 1 1 Ann{renames}")
+            lines.append(command(turn))
+            turn += 1
     return lines
+
+
+def poll_in_turn(users):
+    return lambda told: f"poll {told % users + 1} {told % users + 1}.0 -1"
+
+
+def renames(count):
+    opening = ["user_add 0 ann@x.org Ann 100 k1", "notice", "push 0", "register 1 * realm_user"]
+    return rounds(opening, count, lambda turn: f"user_update 1 1 Ann{turn}", lambda told: f"poll 1 1.0 {told - 1}")
+
+
+def people(count):
+    users, streams = 50, 10
+
+    def command(turn):
+        user, stream = turn % users + 1, turn % streams + 1
+        return (
+            f"user_update {user} {user} n{turn}",
+            f"subscribe 1 {stream} {user}",
+            f"stream_update 1 {stream} description d{turn}",
+            f"unsubscribe 1 {stream} {user}",
+        )[turn % 4]
+
+    return rounds(opened(users, streams), count, command, poll_in_turn(users))
+
+
+def messages(count):
+    users, streams = 20, 5
+
+    def command(turn):
+        user, stream, message = turn * 7 % users + 1, turn % streams + 1, turn * 3 // 5 + 1
+        kind = turn % 20
+        if kind < 12:
+            return f"send_stream 1 {stream} t{turn % 3} m{turn}" if turn % 5 else f"send_dm {user} {turn % users + 1} m{turn}"
+        if kind < 17:
+            return f"flags 1 add {('read', 'starred')[turn % 2]} {max(1, message - turn % 9)}"
+        if kind < 19:
+            return f"reaction_add 1 {max(1, message - turn % 9)} tada"
+        return (
+            f"edit_content 1 {max(1, message - 2)} e{turn}",
+            f"move 1 {max(1, message - 3)} {stream} t0 one",
+            f"delete 1 {max(1, message - 4)}",
+            f"user_update {user} {user} n{turn}",
+            f"stream_update 1 {stream} description d{turn}",
+        )[turn // 20 % 5]
+
+    return rounds(opened(users, streams), count, command, poll_in_turn(users))
+
+
+SCRIPTS = {
+    "renames": (renames, [100_000, 200_000]),
+    "people": (people, [500, 1_000]),
+    "messages": (messages, [2_000, 4_000]),
+}
 
 
 def replay(program, lines):
@@ -57,16 +121,18 @@ def replay(program, lines):
 
 
 def main():
-    if len(sys.argv) < 2:
+    words = sys.argv[1:]
+    if not words or len(words) > 1 and words[1] not in SCRIPTS:
         sys.exit(__doc__.strip())
-    program = os.path.abspath(sys.argv[1])
-    counts = [int(word) for word in sys.argv[2:]] or DEFAULT_COUNTS
-    before = None
-    for count in counts:
-        seconds, memory = replay(program, script(count))
-        ratio = f", {seconds / before:.2f} times the one before" if before else ""
-        print(f"{count} lines: {seconds:.3f} s{ratio}, at most {memory / 1024:.1f} MiB")
-        before = seconds
+    program = os.path.abspath(words[0])
+    for name in words[1:2] or SCRIPTS:
+        script, counts = SCRIPTS[name]
+        before = None
+        for count in [int(word) for word in words[2:]] or counts:
+            seconds, memory = replay(program, script(count))
+            ratio = f", {seconds / before:.2f} times the one before" if before else ""
+            print(f"{name}, {count} lines: {seconds:.3f} s{ratio}, at most {memory / 1024:.1f} MiB")
+            before = seconds
 
 
 main()
