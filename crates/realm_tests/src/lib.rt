@@ -2,6 +2,8 @@
 #![tactic(auto)]
 
 #[cfg(test)]
+mod full_log;
+#[cfg(test)]
 mod realm;
 #[cfg(test)]
 mod sample_realm;

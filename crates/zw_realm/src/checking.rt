@@ -1,9 +1,7 @@
 //! The check of a command, whatever its part of the vocabulary.
 
-ghost use Rattle.std.specs.Prelude.{◌≡◌, IfErr, IfOk, Some};
-ghost use Rattle.zr_types.specs.declared.command.Refusal.{Refusal};
-ghost use Rattle.zr_types.specs.declared.command.CommitFault.TheVariants.{Refused};
-ghost use Rattle.zr_types.specs.Commits.{IsChecked};
+ghost use Rattle.std.specs.Prelude.{◌≡◌, IfOk};
+ghost use Rattle.zr_types.specs.Commits.{IsChecked, refusal_in};
 ghost use Rattle.zr_types.specs.Refusals.{refusal};
 
 use ev_base::UserId;
@@ -20,13 +18,12 @@ pub fn check(
     command: Command,
 ) -> Result<Change, CommitFault>
     ensures accepted { IfOk result (IsChecked realm.now.state actor moment command) }
-    ensures refused { IfErr result (λ fault. (why : Refusal) → fault ≡ Refused why
-        → refusal realm.now.state actor command ≡ Some why) }
+    ensures refused { refusal_in result ≡ refusal realm.now.state actor command }
 {
     match command {
         Command::People(command) => cmd_people::check(alloc, realm, actor, moment, command),
         Command::Streams(command) => cmd_streams::check(alloc, realm, actor, moment, command),
-        // No line of a script reaches these: their commands aren't built yet.
-        Command::Posts(_) | Command::Marks(_) => Err(CommitFault::NoMemory),
+        Command::Posts(command) => cmd_posts::check(alloc, realm, actor, moment, command),
+        Command::Marks(command) => cmd_marks::check(alloc, realm, actor, moment, command),
     }
 }
