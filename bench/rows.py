@@ -4,7 +4,7 @@
 Build it first by `rt run` in crates/rows_bench, then: python3 bench/rows.py [RUNS]
 
 Each figure is the least of RUNS runs (5, where it isn't given), less that of a run which only does what
-comes before: starting the program for `fill`, and the fill for `middle` and `merge`.
+comes before: starting the program for `fill`, and the fill for the others.
 """
 
 import pathlib
@@ -18,6 +18,7 @@ WORKS = [
     ("fill", None, "a million puts in rising order"),
     ("middle", "fill", "ten thousand puts in the middle of a million rows"),
     ("merge", "fill", "a merge of ten thousand rows into a million"),
+    ("delete", "fill", "a walk over a million rows that drops ten thousand"),
 ]
 
 

@@ -45,3 +45,9 @@ pub fn merged(alloc: Global, mut posts: Posts) -> Result<Posts, NoMemory> {
     }
     Ok(posts)
 }
+
+/// All but those of one message, as its deletion leaves them, in one walk.
+pub fn without_a_message(mut posts: Posts) -> Posts {
+    posts.receipts_keep(|row| row.0.1.0 != 50);
+    posts
+}
