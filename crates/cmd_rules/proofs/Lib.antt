@@ -1,2 +1,3 @@
 pub mod RefusalLemmas
 pub mod CommitLemmas
+pub mod DistinctLemmas

@@ -3,13 +3,15 @@
 #![tactic(auto)]
 
 mod commit;
+mod ids;
 mod limits;
 mod roles;
 mod texts;
 
 pub use commit::commit_change;
+pub use ids::distinct;
 pub use limits::{accept, accepted_texts, is_past};
 pub use roles::{
     is_administrator, is_guest_user, is_only_owner, is_owner, is_owner_role, may_change,
 };
-pub use texts::{GivenText, read_texts};
+pub use texts::{GivenText, pass_limit, read_texts};

@@ -1,0 +1,4 @@
+pub mod CountLemmas
+pub mod FlagLemmas
+pub mod ReactionLemmas
+pub mod RemovalLemmas
