@@ -1,7 +1,7 @@
 -- How a run ends where a line isn't played.
 use Rattle.std.specs.Prelude.{ℕ, ◌+◌}
-use Rattle.zs_script.specs.declared.reading.LineFault.{LineFault}
-use Rattle.zs_script.specs.declared.reading.LineFault.TheVariants as fault
+use Rattle.zs_words.specs.declared.fault.LineFault.{LineFault}
+use Rattle.zs_words.specs.declared.fault.LineFault.TheVariants as fault
 use Rattle.zm_run.specs.declared.runner.Stop.{Stop}
 use Rattle.zm_run.specs.declared.runner.Stop.TheVariants as stop
 use Rattle.zm_run.specs.declared.status.Status.{Status}

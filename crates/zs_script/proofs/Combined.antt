@@ -1,10 +1,7 @@
 -- Words that spell one to four values: how many they are, and that they spell one whole.
 use Rattle.std.proofs.Common.{◌≡◌, ℕ, List, [], ◌∷◌, length, refl, sym, ap, ◌∙◌}
+use Rattle.zs_words.proofs.Meanings.{SpellsOne}
 use Rattle.zs_script.specs.Grammar.{One, Two, Three, Four}
-
--- a word of this kind spells one value at most
-abbrev pub SpellsOne : {A : Type 0} → (List ℕ → A → Type 0) → Type 0
-SpellsOne {A} kind = (word : List ℕ) (x y : A) → kind word x → kind word y → x ≡ y
 
 pub one_word : {A W : Type 0} (first : List ℕ → A → Type 0) (make : A → W) (words : List (List ℕ)) (whole : W) → One first make words whole → length words ≡ 1
 one_word first make [] whole is = absurd is

@@ -6,18 +6,19 @@ use Rattle.zr_types.specs.declared.command.Command.TheVariants.{Streams}
 use Rattle.zr_types.specs.declared.command.StreamCommand.TheVariants.{SubProperty}
 use Rattle.zr_types.specs.declared.command.SubField.TheVariants as value
 use Rattle.ev_base.specs.declared.ids.UserId.{UserId}
-use Rattle.zs_script.specs.declared.names.CommandName.{CommandName}
-use Rattle.zs_script.specs.declared.names.LineName.TheVariants as line
+use Rattle.zs_words.specs.declared.names.CommandName.{CommandName}
+use Rattle.zs_words.specs.declared.names.LineName.TheVariants as line
 use Rattle.zs_script.specs.declared.step.Step.TheVariants.{Command}
-use Rattle.zs_script.specs.declared.names.SubProperty.{SubProperty as SubName}
-use Rattle.zs_script.specs.declared.names.SubProperty.TheVariants as sub
-use Rattle.zs_script.specs.declared.reading.LineFault.{LineFault}
-use Rattle.zs_script.specs.declared.reading.LineFault.TheVariants.{NotAStep, NoMemory}
-use Rattle.zs_script.specs.Grammar.{Two, Three, Four, IsNameAmong, ValueSpells, SubPropertySpells, ArgumentsSpell, RestSpells}
-use Rattle.zs_script.specs.Names.{sub_properties, sub_name}
-use Rattle.zs_script.specs.Numbers.{IsUser, IsStream}
-use Rattle.zs_script.specs.Texts.{IsText}
-use Rattle.zs_script.specs.Readings.{Reads, ReadsStep, pointed}
+use Rattle.zs_words.specs.declared.names.SubProperty.{SubProperty as SubName}
+use Rattle.zs_words.specs.declared.names.SubProperty.TheVariants as sub
+use Rattle.zs_words.specs.declared.fault.LineFault.{LineFault}
+use Rattle.zs_words.specs.declared.fault.LineFault.TheVariants.{NotAStep, NoMemory}
+use Rattle.zs_script.specs.Grammar.{Two, Three, Four, ValueSpells, SubPropertySpells, ArgumentsSpell, RestSpells}
+use Rattle.zs_words.specs.Names.{IsSubProperty}
+use Rattle.zs_words.specs.Numbers.{IsUser, IsStream}
+use Rattle.zs_words.specs.Texts.{IsText}
+use Rattle.zs_script.specs.Readings.{ReadsStep}
+use Rattle.zs_words.specs.Readings.{Reads, pointed}
 
 -- word k, as a slice pattern reads it
 abbrev pub word : List (Bor (List ℕ)) → ℕ → List ℕ
@@ -44,41 +45,52 @@ three_last first second third make (a ∷ b ∷ c ∷ []) fault x y least below 
 }
 three_last first second third make (a ∷ b ∷ c ∷ d ∷ rest) fault x y least below is also reads = absurd (omega arith)
 
--- where one of four or three words spells nothing
-pub four_no_second : {A B C D W : Type 0} (first : List ℕ → A → Type 0) (second : List ℕ → B → Type 0) (third : List ℕ → C → Type 0) (fourth : List ℕ → D → Type 0) (make : A → B → C → D → W) (words : List (Bor (List ℕ))) → 4 ≤ length words → length words < 5 → ((y : B) → second (word words 1) y → ⊥) → Reads (Four first second third fourth make (pointed words)) (Err NotAStep)
-four_no_second first second third fourth make [] least below none = absurd (omega arith)
-four_no_second first second third fourth make (a ∷ []) least below none = absurd (omega arith)
-four_no_second first second third fourth make (a ∷ b ∷ []) least below none = absurd (omega arith)
-four_no_second first second third fourth make (a ∷ b ∷ c ∷ []) least below none = absurd (omega arith)
-four_no_second first second third fourth make (a ∷ b ∷ c ∷ d ∷ []) least below none = record {
+-- the third of four words is read last
+pub four_third : {A B C D W : Type 0} (first : List ℕ → A → Type 0) (second : List ℕ → B → Type 0) (third : List ℕ → C → Type 0) (fourth : List ℕ → D → Type 0) (make : A → B → C → D → W) (words : List (Bor (List ℕ))) (fault : LineFault) (x : A) (y : B) (u : D) → 4 ≤ length words → length words < 5 → first (word words 0) x → second (word words 1) y → fourth (word words 3) u → Reads (third (word words 2)) (Err fault) → Reads (Four first second third fourth make (pointed words)) (Err fault)
+four_third first second third fourth make [] fault x y u least below is_x is_y is_u reads = absurd (omega arith)
+four_third first second third fourth make (a ∷ []) fault x y u least below is_x is_y is_u reads = absurd (omega arith)
+four_third first second third fourth make (a ∷ b ∷ []) fault x y u least below is_x is_y is_u reads = absurd (omega arith)
+four_third first second third fourth make (a ∷ b ∷ c ∷ []) fault x y u least below is_x is_y is_u reads = absurd (omega arith)
+four_third first second third fourth make (a ∷ b ∷ c ∷ d ∷ []) fault x y u least below is_x is_y is_u reads = record {
   value = tt;
-  not_a_step = λ _ whole spells. none spells.1 spells.5;
-  no_memory = λ other. absurd (cc);
+  not_a_step = λ none whole spells. reads.not_a_step (cc) spells.2 spells.6;
+  no_memory = λ none. let z = reads.no_memory (cc) in (make x y z.0 u, (x, y, z.0, u, is_x, is_y, z.1, is_u, refl));
 }
-four_no_second first second third fourth make (a ∷ b ∷ c ∷ d ∷ e ∷ rest) least below none = absurd (omega arith)
+four_third first second third fourth make (a ∷ b ∷ c ∷ d ∷ e ∷ rest) fault x y u least below is_x is_y is_u reads = absurd (omega arith)
 
-pub four_no_fourth : {A B C D W : Type 0} (first : List ℕ → A → Type 0) (second : List ℕ → B → Type 0) (third : List ℕ → C → Type 0) (fourth : List ℕ → D → Type 0) (make : A → B → C → D → W) (words : List (Bor (List ℕ))) → 4 ≤ length words → length words < 5 → ((u : D) → fourth (word words 3) u → ⊥) → Reads (Four first second third fourth make (pointed words)) (Err NotAStep)
-four_no_fourth first second third fourth make [] least below none = absurd (omega arith)
-four_no_fourth first second third fourth make (a ∷ []) least below none = absurd (omega arith)
-four_no_fourth first second third fourth make (a ∷ b ∷ []) least below none = absurd (omega arith)
-four_no_fourth first second third fourth make (a ∷ b ∷ c ∷ []) least below none = absurd (omega arith)
-four_no_fourth first second third fourth make (a ∷ b ∷ c ∷ d ∷ []) least below none = record {
+-- where no values are spelled together by two words, three or four
+pub two_none : {A B W : Type 0} (first : List ℕ → A → Type 0) (second : List ℕ → B → Type 0) (make : A → B → W) (words : List (Bor (List ℕ))) → 2 ≤ length words → length words < 3 → ((x : A) (y : B) → first (word words 0) x → second (word words 1) y → ⊥) → Reads (Two first second make (pointed words)) (Err NotAStep)
+two_none first second make [] least below none = absurd (omega arith)
+two_none first second make (a ∷ []) least below none = absurd (omega arith)
+two_none first second make (a ∷ b ∷ []) least below none = record {
   value = tt;
-  not_a_step = λ _ whole spells. none spells.3 spells.7;
+  not_a_step = λ _ whole spells. none spells.0 spells.1 spells.2 spells.3;
   no_memory = λ other. absurd (cc);
 }
-four_no_fourth first second third fourth make (a ∷ b ∷ c ∷ d ∷ e ∷ rest) least below none = absurd (omega arith)
+two_none first second make (a ∷ b ∷ c ∷ rest) least below none = absurd (omega arith)
 
-pub three_no_second : {A B C W : Type 0} (first : List ℕ → A → Type 0) (second : List ℕ → B → Type 0) (third : List ℕ → C → Type 0) (make : A → B → C → W) (words : List (Bor (List ℕ))) → 3 ≤ length words → length words < 4 → ((y : B) → second (word words 1) y → ⊥) → Reads (Three first second third make (pointed words)) (Err NotAStep)
-three_no_second first second third make [] least below none = absurd (omega arith)
-three_no_second first second third make (a ∷ []) least below none = absurd (omega arith)
-three_no_second first second third make (a ∷ b ∷ []) least below none = absurd (omega arith)
-three_no_second first second third make (a ∷ b ∷ c ∷ []) least below none = record {
+pub three_none : {A B C W : Type 0} (first : List ℕ → A → Type 0) (second : List ℕ → B → Type 0) (third : List ℕ → C → Type 0) (make : A → B → C → W) (words : List (Bor (List ℕ))) → 3 ≤ length words → length words < 4 → ((x : A) (y : B) (z : C) → first (word words 0) x → second (word words 1) y → third (word words 2) z → ⊥) → Reads (Three first second third make (pointed words)) (Err NotAStep)
+three_none first second third make [] least below none = absurd (omega arith)
+three_none first second third make (a ∷ []) least below none = absurd (omega arith)
+three_none first second third make (a ∷ b ∷ []) least below none = absurd (omega arith)
+three_none first second third make (a ∷ b ∷ c ∷ []) least below none = record {
   value = tt;
-  not_a_step = λ _ whole spells. none spells.1 spells.4;
+  not_a_step = λ _ whole spells. none spells.0 spells.1 spells.2 spells.3 spells.4 spells.5;
   no_memory = λ other. absurd (cc);
 }
-three_no_second first second third make (a ∷ b ∷ c ∷ d ∷ rest) least below none = absurd (omega arith)
+three_none first second third make (a ∷ b ∷ c ∷ d ∷ rest) least below none = absurd (omega arith)
+
+pub four_none : {A B C D W : Type 0} (first : List ℕ → A → Type 0) (second : List ℕ → B → Type 0) (third : List ℕ → C → Type 0) (fourth : List ℕ → D → Type 0) (make : A → B → C → D → W) (words : List (Bor (List ℕ))) → 4 ≤ length words → length words < 5 → ((x : A) (y : B) (z : C) (u : D) → first (word words 0) x → second (word words 1) y → third (word words 2) z → fourth (word words 3) u → ⊥) → Reads (Four first second third fourth make (pointed words)) (Err NotAStep)
+four_none first second third fourth make [] least below none = absurd (omega arith)
+four_none first second third fourth make (a ∷ []) least below none = absurd (omega arith)
+four_none first second third fourth make (a ∷ b ∷ []) least below none = absurd (omega arith)
+four_none first second third fourth make (a ∷ b ∷ c ∷ []) least below none = absurd (omega arith)
+four_none first second third fourth make (a ∷ b ∷ c ∷ d ∷ []) least below none = record {
+  value = tt;
+  not_a_step = λ _ whole spells. none spells.0 spells.1 spells.2 spells.3 spells.4 spells.5 spells.6 spells.7;
+  no_memory = λ other. absurd (cc);
+}
+four_none first second third fourth make (a ∷ b ∷ c ∷ d ∷ e ∷ rest) least below none = absurd (omega arith)
 
 -- where memory runs out for a whole that is spelled
 pub four_memory : {A B C D W : Type 0} (first : List ℕ → A → Type 0) (second : List ℕ → B → Type 0) (third : List ℕ → C → Type 0) (fourth : List ℕ → D → Type 0) (make : A → B → C → D → W) (words : List (Bor (List ℕ))) (x : A) (y : B) (z : C) (u : D) → 4 ≤ length words → length words < 5 → first (word words 0) x → second (word words 1) y → third (word words 2) z → fourth (word words 3) u → Reads (Four first second third fourth make (pointed words)) (Err NoMemory)
@@ -92,6 +104,16 @@ four_memory first second third fourth make (a ∷ b ∷ c ∷ d ∷ []) x y z u 
   no_memory = λ _. (make x y z u, (x, y, z, u, is_x, is_y, is_z, is_u, refl));
 }
 four_memory first second third fourth make (a ∷ b ∷ c ∷ d ∷ e ∷ rest) x y z u least below is_x is_y is_z is_u = absurd (omega arith)
+
+pub two_memory : {A B W : Type 0} (first : List ℕ → A → Type 0) (second : List ℕ → B → Type 0) (make : A → B → W) (words : List (Bor (List ℕ))) (x : A) (y : B) → 2 ≤ length words → length words < 3 → first (word words 0) x → second (word words 1) y → Reads (Two first second make (pointed words)) (Err NoMemory)
+two_memory first second make [] x y least below is_x is_y = absurd (omega arith)
+two_memory first second make (a ∷ []) x y least below is_x is_y = absurd (omega arith)
+two_memory first second make (a ∷ b ∷ []) x y least below is_x is_y = record {
+  value = tt;
+  not_a_step = λ other. absurd (cc);
+  no_memory = λ _. (make x y, (x, y, is_x, is_y, refl));
+}
+two_memory first second make (a ∷ b ∷ c ∷ rest) x y least below is_x is_y = absurd (omega arith)
 
 pub three_memory : {A B C W : Type 0} (first : List ℕ → A → Type 0) (second : List ℕ → B → Type 0) (third : List ℕ → C → Type 0) (make : A → B → C → W) (words : List (Bor (List ℕ))) (x : A) (y : B) (z : C) → 3 ≤ length words → length words < 4 → first (word words 0) x → second (word words 1) y → third (word words 2) z → Reads (Three first second third make (pointed words)) (Err NoMemory)
 three_memory first second third make [] x y z least below is_x is_y is_z = absurd (omega arith)
@@ -124,7 +146,7 @@ no_color sub.IsMuted word fault is reads = absurd (cc)
 no_color sub.PinToTop word fault is reads = absurd (cc)
 
 -- a value of a subscription's property that isn't read
-pub no_value : (words : List (Bor (List ℕ))) (fault : LineFault) (stream : StreamId) (property : SubName) → 3 ≤ length words → length words < 4 → IsStream (word words 0) stream → IsNameAmong sub_properties sub_name (word words 1) property → Reads (ValueSpells property (word words 2)) (Err fault) → Reads (SubPropertySpells (pointed words)) (Err fault)
+pub no_value : (words : List (Bor (List ℕ))) (fault : LineFault) (stream : StreamId) (property : SubName) → 3 ≤ length words → length words < 4 → IsStream (word words 0) stream → IsSubProperty (word words 1) property → Reads (ValueSpells property (word words 2)) (Err fault) → Reads (SubPropertySpells (pointed words)) (Err fault)
 no_value [] fault stream property least below is_stream is_property reads = absurd (omega arith)
 no_value (a ∷ []) fault stream property least below is_stream is_property reads = absurd (omega arith)
 no_value (a ∷ b ∷ []) fault stream property least below is_stream is_property reads = absurd (omega arith)

@@ -1,8 +1,5 @@
 pub mod Combined
 pub mod Failing
-pub mod ListLemmas
 pub mod Meanings
-pub mod NumberLemmas
-pub mod StepAnswers
-pub mod TextLemmas
 pub mod PushedShards
+pub mod StepAnswers

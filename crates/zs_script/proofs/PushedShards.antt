@@ -1,7 +1,7 @@
 -- A push names a shard that is there.
 use Rattle.std.proofs.Common.{◌≡◌, ℕ, ◌<◌, List, [], ◌∷◌, arith}
-use Rattle.zs_script.specs.declared.names.LineName.{LineName}
-use Rattle.zs_script.specs.declared.names.LineName.TheVariants as line
+use Rattle.zs_words.specs.declared.names.LineName.{LineName}
+use Rattle.zs_words.specs.declared.names.LineName.TheVariants as line
 use Rattle.zs_script.specs.declared.step.Step.TheVariants.{Push}
 use Rattle.zs_script.specs.Grammar.{RestSpells, Spells, WordsSpell, words_of}
 

@@ -4,14 +4,15 @@ use Rattle.ev_base.specs.declared.ids.QueueId.{QueueId}
 use Rattle.ev_base.specs.declared.ids.UserId.{UserId}
 use Rattle.ev_types.specs.declared.kind.Types.{Types}
 use Rattle.ev_types.specs.declared.section.Section.{Section}
-use Rattle.zs_script.specs.declared.names.LineName.TheVariants as line
-use Rattle.zs_script.specs.declared.reading.LineFault.TheVariants.{NotAStep, NoMemory}
+use Rattle.zs_words.specs.declared.names.LineName.TheVariants as line
+use Rattle.zs_words.specs.declared.fault.LineFault.TheVariants.{NotAStep, NoMemory}
 use Rattle.zs_script.specs.declared.step.Step.{Step}
 use Rattle.zs_script.specs.declared.step.Step.TheVariants.{Register}
 use Rattle.zs_script.specs.Grammar.{RestSpells}
-use Rattle.zs_script.specs.Lists.{IsTypes, IsFetch}
-use Rattle.zs_script.specs.Numbers.{IsUser, IsQueue}
-use Rattle.zs_script.specs.Readings.{ReadsStep, pointed}
+use Rattle.zs_words.specs.Lists.{IsTypes, IsFetch}
+use Rattle.zs_words.specs.Numbers.{IsUser, IsQueue}
+use Rattle.zs_script.specs.Readings.{ReadsStep}
+use Rattle.zs_words.specs.Readings.{pointed}
 use Rattle.zs_script.proofs.Failing.{word}
 
 -- a poll whose second word is no queue

@@ -1,30 +1,31 @@
 -- The grammar of a script's lines: which step a line spells.
-use Rattle.std.specs.Prelude.{◌≡◌, ℕ, Bool, false, ◌==◌, List, [], ◌∷◌, find, bytes_eq, Some}
+use Rattle.std.specs.Prelude.{◌≡◌, ℕ, Bool, false, ◌==◌, List, [], ◌∷◌, Some}
 use Rattle.std.specs.List.{slice_split}
 use Rattle.ev_base.specs.declared.ids.UserId.{UserId}
 use Rattle.ev_base.specs.declared.ids.StreamId.{StreamId}
-use Rattle.ev_base.specs.declared.kinds.Privacy.{Privacy}
 use Rattle.ev_types.specs.declared.kind.Types.{Types}
 use Rattle.ev_types.specs.declared.section.Section.{Section}
-use Rattle.zr_types.specs.declared.command.NameField.{NameField}
 use Rattle.zr_types.specs.declared.command.SubField.{SubField}
 use Rattle.zr_types.specs.declared.command.SubField.TheVariants as value
 use Rattle.zr_types.specs.declared.command.Command.{Command as Change}
-use Rattle.zr_types.specs.declared.command.Command.TheVariants.{People, Streams}
+use Rattle.zr_types.specs.declared.command.Command.TheVariants.{People, Streams, Posts, Marks}
 use Rattle.zr_types.specs.declared.command.PeopleCommand.TheVariants.{RealmUpdate, UserAdd, UserUpdate, UserRole, UserDeactivate, UserReactivate}
 use Rattle.zr_types.specs.declared.command.StreamCommand.TheVariants.{Create, Update, SetPrivacy, Archive, Subscribe, Unsubscribe, SubProperty}
-use Rattle.zs_script.specs.declared.names.CommandName.{CommandName}
-use Rattle.zs_script.specs.declared.names.CommandName.TheVariants as command
-use Rattle.zs_script.specs.declared.names.LineName.{LineName}
-use Rattle.zs_script.specs.declared.names.LineName.TheVariants as line
-use Rattle.zs_script.specs.declared.names.SubProperty.{SubProperty as SubName}
-use Rattle.zs_script.specs.declared.names.SubProperty.TheVariants as sub
+use Rattle.zr_types.specs.declared.command.PostCommand.TheVariants.{SendStream, SendDm, EditContent, Move, Delete}
+use Rattle.zr_types.specs.declared.command.MarkCommand.TheVariants.{Flags, ReactionAdd, ReactionRemove}
+use Rattle.zs_words.specs.declared.names.CommandName.{CommandName}
+use Rattle.zs_words.specs.declared.names.CommandName.TheVariants as command
+use Rattle.zs_words.specs.declared.names.LineName.{LineName}
+use Rattle.zs_words.specs.declared.names.LineName.TheVariants as line
+use Rattle.zs_words.specs.declared.names.SubProperty.{SubProperty as SubName}
+use Rattle.zs_words.specs.declared.names.SubProperty.TheVariants as sub
 use Rattle.zs_script.specs.declared.step.Step.{Step}
 use Rattle.zs_script.specs.declared.step.Step.TheVariants.{Command, NoticeAll, Push, Register, Poll, View}
-use Rattle.zs_script.specs.Lists.{IsTypes, IsFetch}
-use Rattle.zs_script.specs.Names.{line_name, lines, sub_name, sub_properties, field_name, name_fields, privacy_name, privacies, truth_name, truth_values}
-use Rattle.zs_script.specs.Numbers.{IsUser, IsStream, IsShard, IsRole, IsQueue, IsEventNumber}
-use Rattle.zs_script.specs.Texts.{IsText}
+use Rattle.zs_words.specs.Lists.{IsUsers, IsMessages, IsTypes, IsFetch}
+use Rattle.zs_words.specs.Names.{adds, IsLineName, IsSubProperty, IsNameField, IsPrivacy, IsMode, IsOperation, IsFlag, IsTruth}
+use Rattle.zs_words.specs.Numbers.{IsUser, IsStream, IsMessage, IsShard, IsRole, IsQueue, IsEventNumber}
+use Rattle.zs_words.specs.StreamRefs.{IsStreamRef}
+use Rattle.zs_words.specs.Texts.{IsText}
 
 -- an empty line and one that begins with # are passed over
 abbrev pub IsPassedOver : List ℕ → Type 0
@@ -34,22 +35,6 @@ IsPassedOver (first ∷ rest) = first ≡ 35
 -- the words of a line: what stands between its spaces
 abbrev pub words_of : List ℕ → List (List ℕ)
 words_of line = slice_split (λ byte. byte == 32) line
-
--- the word is the name of this one of these values
-abbrev pub IsNameAmong : {A : Type 0} → List A → (A → List ℕ) → List ℕ → A → Type 0
-IsNameAmong values name_of word value = find (λ other. bytes_eq (name_of other) word) values ≡ Some value
-
-abbrev pub IsLineName : List ℕ → LineName → Type 0
-IsLineName = IsNameAmong lines line_name
-
-abbrev pub IsNameField : List ℕ → NameField → Type 0
-IsNameField = IsNameAmong name_fields field_name
-
-abbrev pub IsPrivacy : List ℕ → Privacy → Type 0
-IsPrivacy = IsNameAmong privacies privacy_name
-
-abbrev pub IsTruth : List ℕ → Bool → Type 0
-IsTruth = IsNameAmong truth_values truth_name
 
 -- one word spells a value, of which the whole is made; two words; three; four
 abbrev pub One : {A W : Type 0} → (List ℕ → A → Type 0) → (A → W) → List (List ℕ) → W → Type 0
@@ -80,7 +65,7 @@ ValueSpells sub.PinToTop word field = (pinned : Bool) × IsTruth word pinned × 
 abbrev pub SubPropertySpells : List (List ℕ) → Change → Type 0
 SubPropertySpells (a ∷ b ∷ c ∷ []) whole =
     (stream : StreamId) × (property : SubName) × (field : SubField)
-    × IsStream a stream × IsNameAmong sub_properties sub_name b property × ValueSpells property c field
+    × IsStream a stream × IsSubProperty b property × ValueSpells property c field
     × (whole ≡ Streams (SubProperty stream field))
 SubPropertySpells words whole = ⊥
 
@@ -99,6 +84,14 @@ ArgumentsSpell command.StreamArchive = One IsStream (λ stream. Streams (Archive
 ArgumentsSpell command.Subscribe = Two IsStream IsUser (λ stream user. Streams (Subscribe stream user))
 ArgumentsSpell command.Unsubscribe = Two IsStream IsUser (λ stream user. Streams (Unsubscribe stream user))
 ArgumentsSpell command.SubProperty = SubPropertySpells
+ArgumentsSpell command.SendStream = Three IsStreamRef IsText IsText (λ to topic content. Posts (SendStream to topic content))
+ArgumentsSpell command.SendDm = Two IsUsers IsText (λ users content. Posts (SendDm users content))
+ArgumentsSpell command.EditContent = Two IsMessage IsText (λ message content. Posts (EditContent message content))
+ArgumentsSpell command.Move = Four IsMessage IsStream IsText IsMode (λ message stream topic mode. Posts (Move message (Some stream) (Some topic) mode))
+ArgumentsSpell command.Delete = One IsMessage (λ message. Posts (Delete message))
+ArgumentsSpell command.Flags = Three IsOperation IsFlag IsMessages (λ operation flag messages. Marks (Flags (adds operation) flag messages))
+ArgumentsSpell command.ReactionAdd = Two IsMessage IsText (λ message emoji. Marks (ReactionAdd message emoji))
+ArgumentsSpell command.ReactionRemove = Two IsMessage IsText (λ message emoji. Marks (ReactionRemove message emoji))
 
 -- the words after its name spell a command: the actor and the arguments
 abbrev pub CommandSpells : CommandName → List (List ℕ) → Step → Type 0

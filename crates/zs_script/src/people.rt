@@ -3,18 +3,15 @@
 ghost use Rattle.std.specs.Prelude.{◌≡◌, ℕ, List, [], ◌∷◌, IfOk};
 ghost use Rattle.zr_types.specs.declared.command.Command.{Command};
 ghost use Rattle.zr_types.specs.declared.command.PeopleCommand.{PeopleCommand};
-ghost use Rattle.zs_script.specs.declared.names.CommandName.{CommandName};
+ghost use Rattle.zs_words.specs.declared.names.CommandName.{CommandName};
 ghost use Rattle.zs_script.specs.Grammar.{ArgumentsSpell, Three};
-ghost use Rattle.zs_script.specs.Readings.{Reads, pointed};
-ghost use Rattle.zs_script.specs.Texts.{IsText};
+ghost use Rattle.zs_words.specs.Readings.{Reads, pointed};
+ghost use Rattle.zs_words.specs.Texts.{IsText};
 
-use crate::names::read_name;
-use crate::numbers::{read_role, read_user};
-use crate::reading::LineFault;
-use crate::texts::{is_text, read_text, text_of};
 use ev_base::Role;
 use std::alloc::{AllocError, Global};
 use zr_types::{Command, PeopleCommand};
+use zs_words::{LineFault, is_text, read_name, read_role, read_text, read_user, text_of};
 
 pub(crate) fn read_realm_update(alloc: Global, words: &[&[u8]]) -> Result<Command, LineFault>
     ensures { Reads (ArgumentsSpell CommandName.RealmUpdate (pointed words.now)) result }

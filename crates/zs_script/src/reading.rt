@@ -7,25 +7,8 @@ ghost use Rattle.zs_script.specs.declared.step.Step.{Step};
 
 use crate::step::Step;
 use crate::words::{read_words, split_words};
-use std::alloc::{AllocError, Global};
-
-/// Why a line is refused.
-#[derive(Clone, Copy, Debug, PartialEq, Eq)]
-pub enum LineFault {
-    /// The line is passed over by no rule and spells no step.
-    NotAStep,
-    NoMemory,
-}
-
-impl From<AllocError> for LineFault {
-    ghost use Rattle.zs_script.specs.declared.reading.LineFault.{LineFault};
-
-    ghost from_gives = { λ _ fault. fault ≡ LineFault.NoMemory };
-
-    fn from(_: AllocError) -> Self {
-        LineFault::NoMemory
-    }
-}
+use std::alloc::Global;
+use zs_words::LineFault;
 
 /// The step that a line spells where there are these many shards, and none for a line that is passed
 /// over: an empty one, or one that begins with `#`. The line is given without its line feed.

@@ -4,18 +4,17 @@ ghost use Rattle.std.specs.Prelude.{◌≡◌, ℕ, List, [], ◌∷◌, IfOk};
 ghost use Rattle.zr_types.specs.declared.command.Command.{Command};
 ghost use Rattle.zr_types.specs.declared.command.StreamCommand.{StreamCommand};
 ghost use Rattle.zr_types.specs.declared.command.SubField.{SubField};
-ghost use Rattle.zs_script.specs.declared.names.CommandName.{CommandName};
+ghost use Rattle.zs_words.specs.declared.names.CommandName.{CommandName};
 ghost use Rattle.zs_script.specs.Grammar.{ArgumentsSpell, Two, ValueSpells};
-ghost use Rattle.zs_script.specs.Readings.{Reads, pointed};
-ghost use Rattle.zs_script.specs.Texts.{IsText};
+ghost use Rattle.zs_words.specs.Readings.{Reads, pointed};
+ghost use Rattle.zs_words.specs.Texts.{IsText};
 
-use crate::names::{SubProperty, read_name};
-use crate::numbers::{read_stream, read_user};
-use crate::reading::LineFault;
-use crate::texts::{is_text, read_text, text_of};
 use ev_base::Privacy;
 use std::alloc::{AllocError, Global};
 use zr_types::{Command, StreamCommand, SubField};
+use zs_words::{
+    LineFault, SubProperty, is_text, read_name, read_stream, read_text, read_user, text_of,
+};
 
 pub(crate) fn read_stream_create(alloc: Global, words: &[&[u8]]) -> Result<Command, LineFault>
     ensures { Reads (ArgumentsSpell CommandName.StreamCreate (pointed words.now)) result }

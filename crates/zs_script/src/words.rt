@@ -3,20 +3,19 @@
 ghost use Rattle.std.specs.Prelude.{◌≡◌, ◌<◌, List, length, IfOk, MatchOption};
 ghost use Rattle.ev_types.specs.declared.kind.Types.{Types};
 ghost use Rattle.ev_types.specs.declared.section.Section.{Section};
-ghost use Rattle.zs_script.specs.Lists.{IsFetch, IsTypes};
+ghost use Rattle.zs_words.specs.Lists.{IsFetch, IsTypes};
 ghost use Rattle.zs_script.specs.declared.step.Step.TheVariants.{Register};
-ghost use Rattle.zs_script.specs.declared.names.LineName.{LineName};
+ghost use Rattle.zs_words.specs.declared.names.LineName.{LineName};
 ghost use Rattle.zs_script.specs.Grammar.{ArgumentsSpell, RestSpells, words_of};
-ghost use Rattle.zs_script.specs.Readings.{Reads, ReadsStep, ReadsWords, pointed};
+ghost use Rattle.zs_script.specs.Readings.{ReadsStep, ReadsWords};
+ghost use Rattle.zs_words.specs.Readings.{Reads, pointed};
 
-use crate::lists::{fetch_of, is_fetch, is_types, types_of};
-use crate::names::{CommandName, LineName, read_name};
-use crate::numbers::{read_event_number, read_queue, read_shard, read_user};
+use crate::marks::{read_flags, read_reaction_add, read_reaction_remove};
 use crate::people::{
     read_realm_update, read_user_add, read_user_deactivate, read_user_reactivate, read_user_role,
     read_user_update,
 };
-use crate::reading::LineFault;
+use crate::posts::{read_delete, read_edit_content, read_move, read_send_dm, read_send_stream};
 use crate::step::Step;
 use crate::streams::{
     read_stream_archive, read_stream_create, read_stream_privacy, read_stream_update,
@@ -26,6 +25,10 @@ use arrayvec::ArrayVec;
 use ev_base::UserId;
 use std::alloc::{AllocError, Global};
 use zr_types::Command;
+use zs_words::{
+    CommandName, LineFault, LineName, fetch_of, is_fetch, is_types, read_event_number, read_name,
+    read_queue, read_shard, read_user, types_of,
+};
 
 /// The most words that a line has.
 const MAX_WORDS: usize = 6;
@@ -105,6 +108,14 @@ fn read_command(alloc: Global, name: CommandName, words: &[&[u8]]) -> Result<Com
         CommandName::Subscribe => read_subscribe(words),
         CommandName::Unsubscribe => read_unsubscribe(words),
         CommandName::SubProperty => read_sub_property(alloc, words),
+        CommandName::SendStream => read_send_stream(alloc, words),
+        CommandName::SendDm => read_send_dm(alloc, words),
+        CommandName::EditContent => read_edit_content(alloc, words),
+        CommandName::Move => read_move(alloc, words),
+        CommandName::Delete => read_delete(words),
+        CommandName::Flags => read_flags(alloc, words),
+        CommandName::ReactionAdd => read_reaction_add(alloc, words),
+        CommandName::ReactionRemove => read_reaction_remove(alloc, words),
     }
 }
 

@@ -1,6 +1,6 @@
 use Rattle.std.proofs.Common.{◌≡◌, Err, rules}
-use Rattle.zs_script.specs.Grammar.{IsNameField}
-use Rattle.zs_script.specs.Texts.{IsText}
+use Rattle.zs_words.specs.Names.{IsNameField}
+use Rattle.zs_words.specs.Texts.{IsText}
 use Rattle.zs_script.proofs.Failing.{word, two_last}
 use Rattle.zs_script.proofs.people.read_realm_update.Goals as goal
 

@@ -1,19 +1,19 @@
 use Rattle.std.proofs.Common.{◌≡◌, ℕ, List, Err, rules}
-use Rattle.zs_script.specs.declared.reading.LineFault.TheVariants.{NoMemory}
-use Rattle.zs_script.specs.Numbers.{IsRole}
-use Rattle.zs_script.specs.Texts.{IsText}
-use Rattle.zs_script.proofs.Failing.{word, four_no_second, four_no_fourth, four_memory, four_made}
+use Rattle.zs_words.specs.declared.fault.LineFault.TheVariants.{NoMemory}
+use Rattle.zs_words.specs.Numbers.{IsRole}
+use Rattle.zs_words.specs.Texts.{IsText}
+use Rattle.zs_script.proofs.Failing.{word, four_none, four_memory, four_made}
 use Rattle.zs_script.proofs.people.read_user_add.Goals as goal
 
 pub returns-then-not-is_text-2 : goal.returns-then-not-is_text-2
 returns-then-not-is_text-2 c =
     let none : (text : List ℕ) → IsText (word c.args.words.now 1) text → ⊥ = search rules in
-    four_no_second IsText IsText IsRole IsText _ c.args.words.now c.in-len4.len_at_least c.in-len4.len_below none
+    four_none IsText IsText IsRole IsText _ c.args.words.now c.in-len4.len_at_least c.in-len4.len_below (λ x y z u is_x is_y is_z is_u. none y is_y)
 
 pub returns-then-not-is_text-3 : goal.returns-then-not-is_text-3
 returns-then-not-is_text-3 c =
     let none : (text : List ℕ) → IsText (word c.args.words.now 3) text → ⊥ = search rules in
-    four_no_fourth IsText IsText IsRole IsText _ c.args.words.now c.in-len4.len_at_least c.in-len4.len_below none
+    four_none IsText IsText IsRole IsText _ c.args.words.now c.in-len4.len_at_least c.in-len4.len_below (λ x y z u is_x is_y is_z is_u. none u is_u)
 
 pub returns-in_err-user_add : goal.returns-in_err-user_add
 returns-in_err-user_add c =

@@ -1,6 +1,6 @@
 use Rattle.std.proofs.Common.{◌≡◌, Err, rules}
-use Rattle.zs_script.specs.Numbers.{IsUser}
-use Rattle.zs_script.specs.Texts.{IsText}
+use Rattle.zs_words.specs.Numbers.{IsUser}
+use Rattle.zs_words.specs.Texts.{IsText}
 use Rattle.zs_script.proofs.Failing.{two_last}
 use Rattle.zs_script.proofs.people.read_user_update.Goals as goal
 

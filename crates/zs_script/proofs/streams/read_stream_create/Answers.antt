@@ -1,14 +1,14 @@
 use Rattle.std.proofs.Common.{◌≡◌, ℕ, List, Err, rules}
-use Rattle.zs_script.specs.declared.reading.LineFault.TheVariants.{NoMemory}
-use Rattle.zs_script.specs.Grammar.{IsPrivacy}
-use Rattle.zs_script.specs.Texts.{IsText}
-use Rattle.zs_script.proofs.Failing.{word, three_no_second, three_memory}
+use Rattle.zs_words.specs.declared.fault.LineFault.TheVariants.{NoMemory}
+use Rattle.zs_words.specs.Names.{IsPrivacy}
+use Rattle.zs_words.specs.Texts.{IsText}
+use Rattle.zs_script.proofs.Failing.{word, three_none, three_memory}
 use Rattle.zs_script.proofs.streams.read_stream_create.Goals as goal
 
 pub returns-then-not-is_text-2 : goal.returns-then-not-is_text-2
 returns-then-not-is_text-2 c =
     let none : (text : List ℕ) → IsText (word c.args.words.now 1) text → ⊥ = search rules in
-    three_no_second IsText IsText IsPrivacy _ c.args.words.now c.in-len3.len_at_least c.in-len3.len_below none
+    three_none IsText IsText IsPrivacy _ c.args.words.now c.in-len3.len_at_least c.in-len3.len_below (λ x y z is_x is_y is_z. none y is_y)
 
 pub returns-in_err-stream_create : goal.returns-in_err-stream_create
 returns-in_err-stream_create c =

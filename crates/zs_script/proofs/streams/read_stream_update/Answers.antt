@@ -1,7 +1,7 @@
 use Rattle.std.proofs.Common.{◌≡◌, Err, rules}
-use Rattle.zs_script.specs.Grammar.{IsNameField}
-use Rattle.zs_script.specs.Numbers.{IsStream}
-use Rattle.zs_script.specs.Texts.{IsText}
+use Rattle.zs_words.specs.Names.{IsNameField}
+use Rattle.zs_words.specs.Numbers.{IsStream}
+use Rattle.zs_words.specs.Texts.{IsText}
 use Rattle.zs_script.proofs.Failing.{word, three_last}
 use Rattle.zs_script.proofs.streams.read_stream_update.Goals as goal
 

@@ -1,7 +1,6 @@
 use Rattle.std.proofs.Common.{◌≡◌, Err, rules}
-use Rattle.zs_script.specs.Grammar.{IsNameAmong}
-use Rattle.zs_script.specs.Names.{sub_properties, sub_name}
-use Rattle.zs_script.specs.Numbers.{IsStream}
+use Rattle.zs_words.specs.Names.{IsSubProperty}
+use Rattle.zs_words.specs.Numbers.{IsStream}
 use Rattle.zs_script.proofs.Failing.{word, no_value}
 use Rattle.zs_script.proofs.streams.read_sub_property.Goals as goal
 
@@ -9,5 +8,5 @@ pub returns-in_err-read_value : goal.returns-in_err-read_value
 returns-in_err-read_value c =
     let failed : c.from_residual.result ≡ Err c.in_err-read_value.field-0.0 = search rules in
     let stream : IsStream (word c.args.words.now 0) c.in-Some-Some.stream = search rules in
-    let property : IsNameAmong sub_properties sub_name (word c.args.words.now 1) c.in-Some-Some.property = search rules in
+    let property : IsSubProperty (word c.args.words.now 1) c.in-Some-Some.property = search rules in
     rw failed (no_value c.args.words.now c.in_err-read_value.field-0.0 c.in-Some-Some.stream c.in-Some-Some.property c.in-len3.len_at_least c.in-len3.len_below stream property c.in_err-read_value.ensures)

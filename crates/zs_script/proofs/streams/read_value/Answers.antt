@@ -1,5 +1,5 @@
 use Rattle.std.proofs.Common.{◌≡◌, Err, rules}
-use Rattle.zs_script.specs.declared.names.SubProperty.TheVariants as sub
+use Rattle.zs_words.specs.declared.names.SubProperty.TheVariants as sub
 use Rattle.zs_script.proofs.Failing.{no_color}
 use Rattle.zs_script.proofs.streams.read_value.Goals as goal
 

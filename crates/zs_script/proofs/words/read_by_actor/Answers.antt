@@ -1,5 +1,5 @@
 use Rattle.std.proofs.Common.{◌≡◌, Err, refl, rules}
-use Rattle.zs_script.specs.Numbers.{IsUser}
+use Rattle.zs_words.specs.Numbers.{IsUser}
 use Rattle.zs_script.proofs.Failing.{word, no_command}
 use Rattle.zs_script.proofs.words.read_by_actor.Goals as goal
 

@@ -4,7 +4,7 @@ use Rattle.std.proofs.lemmas.Bool.{false≢true}
 use Rattle.std.proofs.lemmas.Iterator.{YieldsList}
 use Rattle.std.proofs.lemmas.Iterator.Consumers.{YieldsList-turn, YieldsList-end}
 use Rattle.std.proofs.lemmas.Iterator.Splits.{YieldsList-from_slice_split}
-use Rattle.zs_script.specs.Readings.{pointed}
+use Rattle.zs_words.specs.Readings.{pointed}
 use Rattle.zs_script.specs.Grammar.{words_of}
 use Rattle.zs_script.proofs.words.split_words.Given as given
 use Rattle.zs_script.proofs.words.split_words.Goals as goal

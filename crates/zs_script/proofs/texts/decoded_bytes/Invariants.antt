@@ -1,9 +1,0 @@
-use Rattle.std.proofs.Common.{length}
-use Rattle.zs_script.specs.TextParts.{BeginsWith}
-use Rattle.zs_script.proofs.texts.decoded_bytes.Given as goal
-
-abbrev pub invariant-loop-byte : goal.invariant-loop-byte
-invariant-loop-byte l = BeginsWith l.fn.word l.bytes.items l.rest
-
-abbrev pub decreases-loop-byte : goal.decreases-loop-byte
-decreases-loop-byte l = length l.rest
