@@ -62,7 +62,10 @@ fn checks_after(alloc: Global, commits: u64) -> Result<[Result<(), CommitFault>;
 #[test]
 fn a_full_log_takes_no_command(rt: HostRuntime) -> Result<(), Fail> {
     let full = Err(CommitFault::Refused(Refusal::LogFull));
-    assert_eq!(rt; checks_after(rt.alloc(), MOST - 1)?, [Ok(()), Ok(()), Ok(()), Ok(())]);
+    assert_eq!(rt;
+        checks_after(rt.alloc(), MOST - 1)?,
+        [Ok(()), Ok(()), Ok(()), Ok(())]
+    );
     assert_eq!(rt; checks_after(rt.alloc(), MOST)?, [full, full, full, full]);
     Ok(())
 }
