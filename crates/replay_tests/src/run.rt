@@ -70,6 +70,25 @@ fn check_story(rt: &impl Abort, alloc: Global, script: &str, told: &str) -> Resu
     Ok(())
 }
 
+/// A script, or what is printed for it, behind that of an opening.
+fn joined(alloc: Global, opening: &str, rest: &str) -> Result<String, AllocError> {
+    format!(in alloc; "{opening}{rest}")
+}
+
+/// Checks what is printed for a script that goes on from an opening of users and streams.
+fn check_refusals(rt: &impl Abort, alloc: Global, script: &str, told: &str) -> Result<(), Fail> {
+    let script = joined(alloc, story::THREE_USERS, script)?;
+    let told = joined(alloc, story::THREE_USERS_TOLD, told)?;
+    check_story(rt, alloc, &script, &told)
+}
+
+/// Checks what is printed for a script that goes on where two messages stand.
+fn check_later(rt: &impl Abort, alloc: Global, script: &str, told: &str) -> Result<(), Fail> {
+    let script = joined(alloc, later::TWO_MESSAGES, script)?;
+    let told = joined(alloc, later::TWO_MESSAGES_TOLD, told)?;
+    check_story(rt, alloc, &script, &told)
+}
+
 #[test]
 fn an_empty_script_prints_nothing(rt: HostRuntime) -> Result<(), Fail> {
     check(&rt, replay(rt.alloc(), "")?, Status::Done, "");
@@ -147,12 +166,12 @@ fn a_deactivated_user_loses_its_queues(rt: HostRuntime) -> Result<(), Fail> {
 
 #[test]
 fn each_refusal_is_told(rt: HostRuntime) -> Result<(), Fail> {
-    check_story(&rt, rt.alloc(), story::REFUSALS, story::REFUSALS_TOLD)
+    check_refusals(&rt, rt.alloc(), story::REFUSALS, story::REFUSALS_TOLD)
 }
 
 #[test]
 fn the_first_of_two_refusals_is_told(rt: HostRuntime) -> Result<(), Fail> {
-    check_story(
+    check_refusals(
         &rt,
         rt.alloc(),
         story::REFUSALS_AT_ONCE,
@@ -168,13 +187,6 @@ fn an_uncovered_section_is_answered(rt: HostRuntime) -> Result<(), Fail> {
         story::AN_UNCOVERED_SECTION,
         story::AN_UNCOVERED_SECTION_TOLD,
     )
-}
-
-/// Checks what is printed for a script that goes on where two messages stand.
-fn check_later(rt: &impl Abort, alloc: Global, script: &str, told: &str) -> Result<(), Fail> {
-    let script = format!(in alloc; "{}{script}", later::TWO_MESSAGES)?;
-    let told = format!(in alloc; "{}{told}", later::TWO_MESSAGES_TOLD)?;
-    check_story(rt, alloc, &script, &told)
 }
 
 #[test]

@@ -124,15 +124,27 @@ pushed 8
 bad_queue
 "##;
 
-/// Each refusal that a command of people or streams has.
-pub const REFUSALS: &str = "user_add 0 ann@x.org Ann 100 k1
+/// Three users, of whom one is a guest, and two streams.
+pub const THREE_USERS: &str = "user_add 0 ann@x.org Ann 100 k1
 user_add 1 bob@x.org Bob 400 k2
 stream_create 1 lab % public
 stream_create 1 den % shared
 subscribe 1 1 2
 subscribe 1 2 2
 user_add 1 gus@x.org Gus 600 k3
-stream_create 1 hall % public
+";
+
+pub const THREE_USERS_TOLD: &str = "committed 1 1
+committed 2 2
+committed 3 1
+committed 4 2
+committed 5
+committed 6
+committed 7 3
+";
+
+/// Each refusal that a command of people or streams has.
+pub const REFUSALS: &str = "stream_create 1 hall % public
 user_add 9 a b 400 k
 realm_update 9 name Home
 stream_create 9 yard % public
@@ -186,14 +198,7 @@ user_deactivate 1 3
 view 9
 ";
 
-pub const REFUSALS_TOLD: &str = r##"committed 1 1
-committed 2 2
-committed 3 1
-committed 4 2
-committed 5
-committed 6
-committed 7 3
-committed 8 3
+pub const REFUSALS_TOLD: &str = r##"committed 8 3
 refused 1 ActorUnknown
 refused 1 ActorUnknown
 refused 1 ActorUnknown
@@ -248,14 +253,7 @@ fetch_refused
 "##;
 
 /// Of two refusals that hold at once the first in their order is told.
-pub const REFUSALS_AT_ONCE: &str = "user_add 0 ann@x.org Ann 100 k1
-user_add 1 bob@x.org Bob 400 k2
-stream_create 1 lab % public
-stream_create 1 den % shared
-subscribe 1 1 2
-subscribe 1 2 2
-user_add 1 gus@x.org Gus 600 k3
-user_update 9 9 %
+pub const REFUSALS_AT_ONCE: &str = "user_update 9 9 %
 user_update 2 9 %
 user_update 1 9 %
 user_add 2 bob@x.org % 400 k-4
@@ -273,14 +271,7 @@ unsubscribe 1 9 9
 sub_property 3 1 color red
 ";
 
-pub const REFUSALS_AT_ONCE_TOLD: &str = r##"committed 1 1
-committed 2 2
-committed 3 1
-committed 4 2
-committed 5
-committed 6
-committed 7 3
-refused 1 ActorUnknown
+pub const REFUSALS_AT_ONCE_TOLD: &str = r##"refused 1 ActorUnknown
 refused 2 NotPermitted
 refused 3 NoSuchUser
 refused 2 NotPermitted
