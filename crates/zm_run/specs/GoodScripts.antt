@@ -1,21 +1,17 @@
 -- What a run owes a good script.
 use Rattle.std.specs.Prelude.{◌≡◌, ℕ, ◌<◌, ◌⊎◌, Option, Some, List, [], ◌∷◌, length}
 use Rattle.zs_script.specs.declared.step.Step.{Step}
-use Rattle.zs_script.specs.Grammar.{IsPassedOver, Spells}
+use Rattle.zs_script.specs.Scripts.{AreSpelled}
 use Rattle.zm_run.specs.declared.status.Status.{Status}
 use Rattle.zm_run.specs.declared.status.Status.TheVariants.{Done, NoMemory}
-use Rattle.zm_run.specs.Inputs.{SplitsWhole, max_input_bytes, shards}
+use Rattle.zm_run.specs.Inputs.{SplitsWhole, max_input_bytes}
 
--- each of these lines is passed over, or spells a step
-abbrev pub AreGood : List (List ℕ) → Type 0
-AreGood [] = Unit {0}
-AreGood (line ∷ lines) = (IsPassedOver line ⊎ ((step : Step) × Spells shards line step)) × AreGood lines
-
--- an input of good lines alone, which may be read to its end
+-- an input of lines that are passed over or spell a step, which may be read to its end
 pub record IsGoodScript (input : List ℕ) : Type 0 where
   pub lines : List (List ℕ)
   pub split : SplitsWhole input lines
-  pub good : AreGood lines
+  pub steps : List Step
+  pub spelled : AreSpelled lines steps
   pub short : length input < max_input_bytes
 
 -- where a source tells a good script, and no read and no write fails, all of it is run, or memory runs out

@@ -2,11 +2,8 @@
 use Rattle.std.specs.Prelude.{◌≡◌, ◌≢◌, ℕ, ◌≤◌, ◌<◌, Option, List, [], ◌∷◌, ◌++◌, length, ◌⊎◌, false, ◌==◌}
 use Rattle.std.specs.List.{list_any}
 use Rattle.ev_ports.specs.Ports.{IsSpent}
+use Rattle.zs_script.specs.declared.step.Setting.{Setting}
 use Rattle.zs_script.specs.Grammar.{IsNoStep}
-
--- a script is run over one shard
-abbrev pub shards : ℕ
-shards = 1
 
 -- no line has more bytes than these, its line feed not counted
 abbrev pub max_line_bytes : ℕ
@@ -55,17 +52,17 @@ pub record BeginsTooLong (bytes : List ℕ) : Type 0 where
   pub no_feed : HasNoFeed front
   pub long : max_line_bytes < length front
 
--- a line that is no step begins here: it ends at a line feed, or at the end of the input
-pub record BeginsNoStep (bytes : List ℕ) (left : Option (List ℕ)) : Type 0 where
+-- a line that is no step after the steps before it begins here: it ends at a line feed, or at the end of the input
+pub record BeginsNoStep (setting : Setting) (bytes : List ℕ) (left : Option (List ℕ)) : Type 0 where
   pub line : List ℕ
   pub more : List ℕ
   pub is_line : IsLine line
-  pub no_step : IsNoStep shards line
+  pub no_step : IsNoStep setting line
   pub begins : (bytes ≡ line ++ 10 ∷ more) ⊎ ((bytes ≡ line) × IsSpent left)
 
 -- the bytes begin with these good lines, the latest first, and then comes a bad one
-pub record BreaksAfter (bytes : List ℕ) (lines : List (List ℕ)) (left : Option (List ℕ)) : Type 0 where
+pub record BreaksAfter (setting : Setting) (bytes : List ℕ) (lines : List (List ℕ)) (left : Option (List ℕ)) : Type 0 where
   pub rest : List ℕ
   pub whole : bytes ≡ bytes_of lines ++ rest
   pub good : AreLines lines
-  pub bad : BeginsTooLong rest ⊎ BeginsNoStep rest left
+  pub bad : BeginsTooLong rest ⊎ BeginsNoStep setting rest left

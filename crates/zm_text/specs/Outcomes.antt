@@ -1,12 +1,13 @@
 -- The line of output that tells an outcome.
-use Rattle.std.specs.Prelude.{ℕ, Option, None, Some, List, [], ◌∷◌, ◌++◌, codes, decimal}
+use Rattle.std.specs.Prelude.{ℕ, Option, None, Some, List, [], ◌∷◌, ◌++◌, codes, decimal, flat_map, length}
 use Rattle.std.specs.Fmt.{signed_decimal}
+use Rattle.ev_base.specs.declared.ids.QueueId.{QueueId}
 use Rattle.ev_types.specs.Sections.{sections_of}
 use Rattle.ev_wire.specs.Bodies.{register_text, events_text, state_text}
 use Rattle.zr_types.specs.declared.command.Refusal.{Refusal}
 use Rattle.zr_types.specs.declared.command.Refusal.TheVariants as refusal
 use Rattle.zm_text.specs.declared.outcome.Outcome.{Outcome}
-use Rattle.zm_text.specs.declared.outcome.Outcome.TheVariants.{Committed, Refused, Noticed, Pushed, Finished, OpensSpent, TooManyQueues, FetchRefused, Answered, Empty, BadQueue, NotSent, Pruned, Viewed}
+use Rattle.zm_text.specs.declared.outcome.Outcome.TheVariants.{Committed, Refused, Sharded, Noticed, Pushed, Gap, Finished, OpensSpent, TooManyQueues, FetchRefused, Answered, Empty, BadQueue, NotSent, Pruned, Deleted, Ticked, At, Viewed}
 
 -- a word and the next, with a space between
 abbrev pub and_then : List ℕ → List ℕ → List ℕ
@@ -35,12 +36,22 @@ abbrev pub committed_text : ℕ → Option ℕ → List ℕ
 committed_text number None = and_then (codes "committed") (decimal number)
 committed_text number (Some id) = and_then (codes "committed") (and_then (decimal number) (decimal id))
 
+-- a queue of a script, as its lines name it: its user and its number
+abbrev pub queue_word : QueueId → List ℕ
+queue_word queue = decimal queue.user.0 ++ 46 ∷ decimal queue.number
+
+-- the number of the queues that were collected, and each of them
+abbrev pub ticked_text : List QueueId → List ℕ
+ticked_text queues = and_then (codes "ticked") (decimal (length queues)) ++ flat_map (λ queue. 32 ∷ queue_word queue) queues
+
 -- the line, without its line feed
 abbrev pub line_of : Outcome → List ℕ
 line_of (Committed number id) = committed_text number id
 line_of (Refused why) = refusal_text why
+line_of (Sharded count) = and_then (codes "shards") (decimal count)
 line_of (Noticed count) = and_then (codes "noticed") (decimal count)
 line_of (Pushed position) = and_then (codes "pushed") (decimal position)
+line_of (Gap have first) = and_then (codes "gap") (and_then (decimal have) (decimal first))
 line_of (Finished reached queue last_event_id state) =
     with_body (codes "finished") reached (register_text queue last_event_id (sections_of state))
 line_of OpensSpent = codes "opens_spent"
@@ -51,6 +62,9 @@ line_of (Empty reached) = and_then (codes "empty") (decimal reached)
 line_of BadQueue = codes "bad_queue"
 line_of (NotSent greatest) = and_then (codes "not_sent") (signed_decimal greatest)
 line_of (Pruned newest) = and_then (codes "pruned") (signed_decimal newest)
+line_of Deleted = codes "deleted"
+line_of (Ticked queues) = ticked_text queues
+line_of (At position) = and_then (codes "at") (decimal position)
 line_of (Viewed commits state) = with_body (codes "view") commits (state_text (sections_of state))
 
 -- the line of output, with its line feed

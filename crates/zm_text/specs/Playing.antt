@@ -1,7 +1,8 @@
 -- What the lines of a script ask of a realm and its shards, and what is printed for them.
-use Rattle.std.specs.Prelude.{◌≡◌, ℕ, ◌+◌, ◌≤◌, ◌<◌, max, Some, List, [], ◌∷◌, ◌++◌, length, map, fold, ◌⊎◌}
+use Rattle.std.specs.Prelude.{◌≡◌, ℕ, ℤ, Bool, ◌+◌, ◌≤◌, ◌<◌, max, Some, List, [], ◌∷◌, ◌++◌, flat_map, length, map, fold, ◌⊎◌}
 use Rattle.ev_base.specs.declared.ids.UserId.{UserId}
 use Rattle.ev_base.specs.declared.ids.QueueId.{QueueId}
+use Rattle.ev_base.specs.declared.expired.Expired.{Expired}
 use Rattle.ev_types.specs.declared.notice.Notice.{Notice}
 use Rattle.ev_types.specs.declared.kind.Types.{Types}
 use Rattle.ev_types.specs.declared.section.Section.{Section}
@@ -20,14 +21,11 @@ use Rattle.zw_traces.specs.FetchedSections.{all_sections, needed}
 use Rattle.zw_traces.specs.RealmTrace.{announced_count, commits}
 use Rattle.zw_traces.specs.Histories.{History, opening_history, shard_of, with_realm_step, with_shard_step}
 use Rattle.zs_script.specs.declared.step.Step.{Step}
-use Rattle.zs_script.specs.declared.step.Step.TheVariants.{Command, NoticeAll, Push, Register, Poll, View}
+use Rattle.zs_script.specs.declared.step.Step.TheVariants.{Command, Shards, NoticeAll, Push, PushFrom, Register, Poll, DeleteQueue, Tick, Locate, View}
 use Rattle.zs_script.specs.Grammar.{IsPassedOver, Spells}
+use Rattle.zs_script.specs.Scripts.{moment_of, setting_of}
 use Rattle.zm_text.specs.declared.outcome.Outcome.{Outcome}
-use Rattle.zm_text.specs.declared.outcome.Outcome.TheVariants.{Committed, Refused, Noticed, Pushed, Finished, OpensSpent, TooManyQueues, FetchRefused, Answered, Empty, BadQueue, NotSent, Pruned, Viewed}
-
--- the moment at which all is asked: these lines let no time pass
-abbrev pub moment : ℕ
-moment = 0
+use Rattle.zm_text.specs.declared.outcome.Outcome.TheVariants.{Committed, Refused, Sharded, Noticed, Pushed, Gap, Finished, OpensSpent, TooManyQueues, FetchRefused, Answered, Empty, BadQueue, NotSent, Pruned, Deleted, Ticked, At, Viewed}
 
 -- the salt of the queues of a script
 abbrev pub salt : ℕ
@@ -82,10 +80,6 @@ pub record PlaysRefusedFetch (user : UserId) (asked : List Section) (before afte
   pub in_order : asked ≡ sections parts ++ which ∷ others
   pub refused : after ≡ with_realm_step (realm.Fetch user which) realm_reply.FetchRefused (with_fetches user parts before)
 
--- a command at its moment: what is printed of its reply
-abbrev pub PlaysCommit : UserId → Change → CommitReply → History → History → Type 0
-PlaysCommit actor command reply before after = after ≡ with_realm_step (realm.Commit actor moment command) (realm_reply.Committed reply) before
-
 -- a push: where the shard stands, and then takes and pushes up to the announced count
 pub record PlaysPush (index : ℕ) (reached : ℕ) (before after : History) : Type 0 where
   pub have : ℕ
@@ -93,28 +87,47 @@ pub record PlaysPush (index : ℕ) (reached : ℕ) (before after : History) : Ty
   pub pushed : TakesAndPushes index (announced_count before.realm) have rounds
       (with_shard_step index shard.Locate (shard_reply.At have) before) reached after
 
+-- one take from a notice on, and one push of what was taken, with this reply
+pub record PlaysPushFrom (index first : ℕ) (reply : ShardReply) (before after : History) : Type 0 where
+  pub notices : List Notice
+  pub pushed : after ≡ with_shard_step index (shard.Push first notices) reply
+      (with_realm_step (realm.Take first) (realm_reply.Notices first notices) before)
+
+-- each shard from this index on is ticked at a moment, in order, and tells which queues it collected
+abbrev pub with_ticks : ℕ → ℕ → List (List Expired) → History → History
+with_ticks moment index [] history = history
+with_ticks moment index (expired ∷ others) history =
+    with_ticks moment (index + 1) others (with_shard_step index (shard.Tick moment) (shard_reply.Ticked expired) history)
+
+-- all shards are ticked, and these are the queues that they collected
+pub record PlaysTick (moment : ℕ) (queues : List QueueId) (before after : History) : Type 0 where
+  pub expired : List (List Expired)
+  pub each : length expired ≡ length before.shards
+  pub told : queues ≡ flat_map (λ (list : List Expired). map (λ (one : Expired). one.queue) list) expired
+  pub ticked : after ≡ with_ticks moment 0 expired before
+
 -- the user's queue is opened
-abbrev pub with_opening : UserId → Types → List Section → QueueId → ℕ → History → History
-with_opening user types asked queue have before = with_step_for user (shard.Start user salt moment types asked) (shard_reply.Opened queue have) before
+abbrev pub with_opening : ℕ → UserId → Types → List Section → QueueId → ℕ → History → History
+with_opening moment user types asked queue have before = with_step_for user (shard.Start user salt moment types asked) (shard_reply.Opened queue have) before
 
 -- the flow of a registration: open, fetch each section that is asked for, catch up to the latest fetch and to the commits at
 -- the start, finish; and this is the reply to the finish
-pub record PlaysRegister (user : UserId) (types : Types) (asked : List Section) (queue : QueueId) (reply : ShardReply) (before after : History) : Type 0 where
+pub record PlaysRegister (moment : ℕ) (user : UserId) (types : Types) (asked : List Section) (queue : QueueId) (reply : ShardReply) (before after : History) : Type 0 where
   pub have : ℕ
   pub parts : List FetchedSection
   pub position : ℕ
   pub caught : History
   pub in_order : sections parts ≡ asked
   pub catches_up : CatchesUp (serving user before) (max (needed asked parts) (commits before.realm)) have
-      (with_fetches user parts (with_opening user types asked queue have before)) position caught
+      (with_fetches user parts (with_opening moment user types asked queue have before)) position caught
   pub finishes : after ≡ with_step_for user (shard.Finish queue parts) reply caught
 
 -- a registration of which a fetch is refused: the queue is deleted
-pub record PlaysRefusedRegister (user : UserId) (types : Types) (asked : List Section) (before after : History) : Type 0 where
+pub record PlaysRefusedRegister (moment : ℕ) (user : UserId) (types : Types) (asked : List Section) (before after : History) : Type 0 where
   pub queue : QueueId
   pub have : ℕ
   pub given_up : History
-  pub fetches : PlaysRefusedFetch user asked (with_opening user types asked queue have before) given_up
+  pub fetches : PlaysRefusedFetch user asked (with_opening moment user types asked queue have before) given_up
   pub deletes : after ≡ with_step_for user (shard.Delete user queue) shard_reply.Deleted given_up
 
 -- each of these parts was fetched at this commit, and is that section of the state
@@ -129,53 +142,65 @@ pub record PlaysView (user : UserId) (at : ℕ) (state : SomeSections) (before a
   pub shown : AreShown at state parts
   pub fetches : after ≡ with_fetches user parts before
 
--- one step of the shard that serves the user, with this reply
-abbrev pub PlaysStart : UserId → Types → List Section → ShardReply → History → History → Type 0
-PlaysStart user types asked reply before after = after ≡ with_step_for user (shard.Start user salt moment types asked) reply before
+-- a step that is asked at a moment after a history, what is printed for it, and the history after it
+module _ (moment : ℕ) where
+  -- one step of the shard that serves the user, with this reply
+  abbrev pub PlaysStart : UserId → Types → List Section → ShardReply → History → History → Type 0
+  PlaysStart user types asked reply before after = after ≡ with_step_for user (shard.Start user salt moment types asked) reply before
 
-abbrev pub PlaysPoll : UserId → ShardInput → ShardReply → History → History → Type 0
-PlaysPoll user input reply before after = after ≡ with_step_for user input reply before
+  abbrev pub PlaysPoll : UserId → QueueId → ℤ → Bool → ShardReply → History → History → Type 0
+  PlaysPoll user queue asked beat reply before after = after ≡ with_step_for user (shard.Poll user queue asked moment beat) reply before
 
--- a step that is asked after a history, what is printed for it, and the history after it
-abbrev pub Plays : Step → Outcome → History → History → Type 0
-Plays (Command actor command) (Committed number id) before after =
-    (reply : CommitReply) × (reply.number ≡ number) × (reply.id ≡ id) × PlaysCommit actor command reply before after
-Plays (Command actor command) (Refused why) before after =
-    after ≡ with_realm_step (realm.Commit actor moment command) (realm_reply.Refused why) before
-Plays NoticeAll (Noticed count) before after =
-    after ≡ with_realm_step realm.NoticeAll (realm_reply.Noticed count) before
-Plays (Push index) (Pushed reached) before after = PlaysPush index reached before after
-Plays (Register user types asked) (Finished reached queue last state) before after =
-    PlaysRegister user types asked queue (shard_reply.Finished state last reached) before after
-Plays (Register user types asked) BadQueue before after =
-    (queue : QueueId) × PlaysRegister user types asked queue shard_reply.BadQueue before after
-Plays (Register user types asked) OpensSpent before after = PlaysStart user types asked shard_reply.OpensSpent before after
-Plays (Register user types asked) TooManyQueues before after = PlaysStart user types asked shard_reply.TooManyQueues before after
-Plays (Register user types asked) FetchRefused before after = PlaysRefusedRegister user types asked before after
-Plays (Poll user queue asked beat) (Answered reached other items) before after =
-    (other ≡ queue) × PlaysPoll user (shard.Poll user queue asked moment beat) (shard_reply.Answer items reached) before after
-Plays (Poll user queue asked beat) (Empty reached) before after =
-    PlaysPoll user (shard.Poll user queue asked moment beat) (shard_reply.Empty reached) before after
-Plays (Poll user queue asked beat) BadQueue before after =
-    PlaysPoll user (shard.Poll user queue asked moment beat) shard_reply.BadQueue before after
-Plays (Poll user queue asked beat) (NotSent greatest) before after =
-    PlaysPoll user (shard.Poll user queue asked moment beat) (shard_reply.NotSent greatest) before after
-Plays (Poll user queue asked beat) (Pruned newest) before after =
-    PlaysPoll user (shard.Poll user queue asked moment beat) (shard_reply.Pruned newest) before after
-Plays (View user) (Viewed at state) before after = PlaysView user at (sections_of state) before after
-Plays (View user) FetchRefused before after = PlaysRefusedFetch user all_sections before after
-Plays step outcome before after = ⊥
+  abbrev pub PlaysDelete : UserId → QueueId → ShardReply → History → History → Type 0
+  PlaysDelete user queue reply before after = after ≡ with_step_for user (shard.Delete user queue) reply before
+
+  abbrev pub Plays : Step → Outcome → History → History → Type 0
+  Plays (Command actor command) (Committed number id) before after =
+      (reply : CommitReply) × (reply.number ≡ number) × (reply.id ≡ id)
+      × (after ≡ with_realm_step (realm.Commit actor moment command) (realm_reply.Committed reply) before)
+  Plays (Command actor command) (Refused why) before after =
+      after ≡ with_realm_step (realm.Commit actor moment command) (realm_reply.Refused why) before
+  Plays (Shards count) (Sharded made) before after = (made ≡ count) × (after ≡ opening_history count)
+  Plays NoticeAll (Noticed count) before after =
+      after ≡ with_realm_step realm.NoticeAll (realm_reply.Noticed count) before
+  Plays (Push index) (Pushed reached) before after = PlaysPush index reached before after
+  Plays (PushFrom index first) (Pushed reached) before after = PlaysPushFrom index first (shard_reply.Pushed reached) before after
+  Plays (PushFrom index first) (Gap have from) before after = PlaysPushFrom index first (shard_reply.Gap have from) before after
+  Plays (Register user types asked) (Finished reached queue last state) before after =
+      PlaysRegister moment user types asked queue (shard_reply.Finished state last reached) before after
+  Plays (Register user types asked) BadQueue before after =
+      (queue : QueueId) × PlaysRegister moment user types asked queue shard_reply.BadQueue before after
+  Plays (Register user types asked) OpensSpent before after = PlaysStart user types asked shard_reply.OpensSpent before after
+  Plays (Register user types asked) TooManyQueues before after = PlaysStart user types asked shard_reply.TooManyQueues before after
+  Plays (Register user types asked) FetchRefused before after = PlaysRefusedRegister moment user types asked before after
+  Plays (Poll user queue asked beat) (Answered reached other items) before after =
+      (other ≡ queue) × PlaysPoll user queue asked beat (shard_reply.Answer items reached) before after
+  Plays (Poll user queue asked beat) (Empty reached) before after = PlaysPoll user queue asked beat (shard_reply.Empty reached) before after
+  Plays (Poll user queue asked beat) BadQueue before after = PlaysPoll user queue asked beat shard_reply.BadQueue before after
+  Plays (Poll user queue asked beat) (NotSent greatest) before after = PlaysPoll user queue asked beat (shard_reply.NotSent greatest) before after
+  Plays (Poll user queue asked beat) (Pruned newest) before after = PlaysPoll user queue asked beat (shard_reply.Pruned newest) before after
+  Plays (DeleteQueue user queue) Deleted before after = PlaysDelete user queue shard_reply.Deleted before after
+  Plays (DeleteQueue user queue) BadQueue before after = PlaysDelete user queue shard_reply.BadQueue before after
+  Plays (Tick at) (Ticked queues) before after = PlaysTick (max moment at) queues before after
+  Plays (Locate index) (At position) before after = after ≡ with_shard_step index shard.Locate (shard_reply.At position) before
+  Plays (View user) (Viewed at state) before after = PlaysView user at (sections_of state) before after
+  Plays (View user) FetchRefused before after = PlaysRefusedFetch user all_sections before after
+  Plays step outcome before after = ⊥
 
 -- what a line asked, and what was printed for it
 pub record Turn : Type 0 where
   pub step : Step
   pub outcome : Outcome
 
--- these are the lines of a script, the latest first, with their turns and a history that they make, in this order
-abbrev pub IsPlayed : ℕ → List (List ℕ) → List Turn → History → Type 0
-IsPlayed shards [] turns history = (turns ≡ []) × (history ≡ opening_history shards)
-IsPlayed shards (line ∷ lines) [] history = IsPassedOver line × IsPlayed shards lines [] history
-IsPlayed shards (line ∷ lines) (turn ∷ turns) history =
-    (IsPassedOver line × IsPlayed shards lines (turn ∷ turns) history)
-    ⊎ (Spells shards line turn.step
-    × ((before : History) × Plays turn.step turn.outcome before history × IsPlayed shards lines turns before))
+abbrev pub steps_in : List Turn → List Step
+steps_in turns = map (λ (turn : Turn). turn.step) turns
+
+-- these are the lines of a script, the latest first, with their turns and a history that they make, in this order: it begins with
+-- one shard, unless the first step makes another number of them
+abbrev pub IsPlayed : List (List ℕ) → List Turn → History → Type 0
+IsPlayed [] turns history = (turns ≡ []) × (history ≡ opening_history 1)
+IsPlayed (line ∷ lines) [] history = IsPassedOver line × IsPlayed lines [] history
+IsPlayed (line ∷ lines) (turn ∷ turns) history =
+    (IsPassedOver line × IsPlayed lines (turn ∷ turns) history)
+    ⊎ (Spells (setting_of (steps_in turns)) line turn.step
+    × ((before : History) × Plays (moment_of (steps_in turns)) turn.step turn.outcome before history × IsPlayed lines turns before))

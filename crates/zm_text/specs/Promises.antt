@@ -18,17 +18,18 @@ use Rattle.zs_script.specs.declared.step.Step.{Step}
 use Rattle.zs_script.specs.declared.step.Step.TheVariants.{Command, Register, View}
 use Rattle.zm_text.specs.declared.outcome.Outcome.{Outcome}
 use Rattle.zm_text.specs.declared.outcome.Outcome.TheVariants.{Committed, Finished, Viewed}
-use Rattle.zm_text.specs.Playing.{Turn, moment}
+use Rattle.zs_script.specs.Scripts.{moment_of}
+use Rattle.zm_text.specs.Playing.{Turn, steps_in}
 use Rattle.zm_text.specs.Clients.{Registration, client_of, is_among, is_followed, is_taken, items_told, reached_by, registration_of}
 
--- the commands whose line of output says committed, the latest first
-abbrev pub accepted_by : Step → Outcome → List Accepted → List Accepted
-accepted_by (Command actor command) (Committed number id) before = record { actor = actor; moment = moment; command = command } ∷ before
-accepted_by step outcome before = before
+-- the commands whose line of output says committed, each with its moment, the latest first
+abbrev pub accepted_by : ℕ → Step → Outcome → List Accepted → List Accepted
+accepted_by moment (Command actor command) (Committed number id) before = record { actor = actor; moment = moment; command = command } ∷ before
+accepted_by moment step outcome before = before
 
 abbrev pub accepted : List Turn → List Accepted
 accepted [] = []
-accepted (turn ∷ before) = accepted_by turn.step turn.outcome (accepted before)
+accepted (turn ∷ before) = accepted_by (moment_of (steps_in before)) turn.step turn.outcome (accepted before)
 
 -- the user is active after these commands
 abbrev pub IsActive : UserId → List Accepted → Type 0

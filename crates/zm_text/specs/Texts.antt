@@ -12,10 +12,10 @@ text_of (turn ∷ before) = text_of before ++ text_of_outcome turn.outcome
 
 -- the lines of a script, the latest first, print this text: each line asks the step that it spells and prints its outcome,
 -- all of it stands in one legal history, and the promises hold of what is printed
-pub record HasText (shards : ℕ) (lines : List (List ℕ)) (text : List ℕ) : Type 0 where
+pub record HasText (lines : List (List ℕ)) (text : List ℕ) : Type 0 where
   pub turns : List Turn
   pub history : History
-  pub played : IsPlayed shards lines turns history
+  pub played : IsPlayed lines turns history
   pub legal : IsLegalHistory history
   pub printed : text ≡ text_of turns
   pub promises : Promises turns

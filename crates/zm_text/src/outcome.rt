@@ -10,9 +10,6 @@ use std::alloc::Global;
 use std::fmt::Display;
 use zr_types::Refusal;
 
-/// The moment at which all is asked: the lines of a script let no time pass.
-pub const MOMENT: u64 = 0;
-
 /// The salt of the queues of a script.
 pub const SALT: u64 = 0;
 
@@ -24,11 +21,20 @@ pub enum Outcome {
         id: Option<u32>,
     },
     Refused(Refusal),
+    /// The script is run over these many shards.
+    Sharded {
+        count: u32,
+    },
     Noticed {
         count: u64,
     },
     Pushed {
         position: u64,
+    },
+    /// The notices before this one aren't all pushed: the shard has these many.
+    Gap {
+        have: u64,
+        first: u64,
     },
     Finished {
         reached: u64,
@@ -53,6 +59,15 @@ pub enum Outcome {
     },
     Pruned {
         newest: i64,
+    },
+    Deleted,
+    /// The queues that were collected, shard after shard, in the order of their opening.
+    Ticked {
+        queues: Listed<QueueId>,
+    },
+    /// How many notices were pushed to a shard.
+    At {
+        position: u64,
     },
     /// All sections of a user's view, after this many commits.
     Viewed {

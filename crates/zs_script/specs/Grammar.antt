@@ -1,5 +1,5 @@
 -- The grammar of a script's lines: which step a line spells.
-use Rattle.std.specs.Prelude.{◌≡◌, ℕ, Bool, false, ◌==◌, List, [], ◌∷◌, Some}
+use Rattle.std.specs.Prelude.{◌≡◌, ℕ, Bool, true, false, ◌==◌, List, [], ◌∷◌, Some}
 use Rattle.std.specs.List.{slice_split}
 use Rattle.ev_base.specs.declared.ids.UserId.{UserId}
 use Rattle.ev_base.specs.declared.ids.StreamId.{StreamId}
@@ -19,11 +19,12 @@ use Rattle.zs_words.specs.declared.names.LineName.{LineName}
 use Rattle.zs_words.specs.declared.names.LineName.TheVariants as line
 use Rattle.zs_words.specs.declared.names.SubProperty.{SubProperty as SubName}
 use Rattle.zs_words.specs.declared.names.SubProperty.TheVariants as sub
+use Rattle.zs_script.specs.declared.step.Setting.{Setting}
 use Rattle.zs_script.specs.declared.step.Step.{Step}
-use Rattle.zs_script.specs.declared.step.Step.TheVariants.{Command, NoticeAll, Push, Register, Poll, View}
+use Rattle.zs_script.specs.declared.step.Step.TheVariants.{Command, Shards, NoticeAll, Push, PushFrom, Register, Poll, DeleteQueue, Tick, Locate, View}
 use Rattle.zs_words.specs.Lists.{IsUsers, IsMessages, IsTypes, IsFetch}
 use Rattle.zs_words.specs.Names.{adds, IsLineName, IsSubProperty, IsNameField, IsPrivacy, IsMode, IsOperation, IsFlag, IsTruth}
-use Rattle.zs_words.specs.Numbers.{IsUser, IsStream, IsMessage, IsShard, IsRole, IsQueue, IsEventNumber}
+use Rattle.zs_words.specs.Numbers.{IsUser, IsStream, IsMessage, IsShard, IsShardCount, IsNoticeNumber, IsMoment, IsRole, IsQueue, IsEventNumber}
 use Rattle.zs_words.specs.StreamRefs.{IsStreamRef}
 use Rattle.zs_words.specs.Texts.{IsText}
 
@@ -107,27 +108,45 @@ RegisterSpells (a ∷ b ∷ c ∷ []) step =
     × IsUser a user × IsTypes b types × IsFetch types c asked × (step ≡ Register user types asked)
 RegisterSpells words step = ⊥
 
--- the words after this name spell the step, where there are these many shards
-abbrev pub RestSpells : ℕ → LineName → List (List ℕ) → Step → Type 0
-RestSpells shards (line.Command name) rest step = CommandSpells name rest step
-RestSpells shards line.Notice rest step = (rest ≡ []) × (step ≡ NoticeAll)
-RestSpells shards line.Push rest step = One (IsShard shards) Push rest step
-RestSpells shards line.Register rest step = RegisterSpells rest step
-RestSpells shards line.Poll rest step = Three IsUser IsQueue IsEventNumber (λ user queue after. Poll user queue after false) rest step
-RestSpells shards line.View rest step = One IsUser View rest step
+-- the word after its name spells a number of shards; only the first step may
+abbrev pub ShardsSpells : Setting → List (List ℕ) → Step → Type 0
+ShardsSpells setting rest step = (setting.is_first ≡ true) × One IsShardCount Shards rest step
+
+-- the words after its name spell a push of all that a shard lacks, or from a notice on
+abbrev pub PushSpells : Setting → List (List ℕ) → Step → Type 0
+PushSpells setting (a ∷ []) step = One (IsShard setting.shards) Push (a ∷ []) step
+PushSpells setting rest step = Two (IsShard setting.shards) IsNoticeNumber PushFrom rest step
+
+-- the words after its name spell a poll, with a heartbeat or without
+abbrev pub PollSpells : Bool → List (List ℕ) → Step → Type 0
+PollSpells beat rest step = Three IsUser IsQueue IsEventNumber (λ user queue after. Poll user queue after beat) rest step
+
+-- the words after this name spell the step
+abbrev pub RestSpells : Setting → LineName → List (List ℕ) → Step → Type 0
+RestSpells setting (line.Command name) rest step = CommandSpells name rest step
+RestSpells setting line.Shards rest step = ShardsSpells setting rest step
+RestSpells setting line.Notice rest step = (rest ≡ []) × (step ≡ NoticeAll)
+RestSpells setting line.Push rest step = PushSpells setting rest step
+RestSpells setting line.Register rest step = RegisterSpells rest step
+RestSpells setting line.Poll rest step = PollSpells false rest step
+RestSpells setting line.Beat rest step = PollSpells true rest step
+RestSpells setting line.DeleteQueue rest step = Two IsUser IsQueue DeleteQueue rest step
+RestSpells setting line.Tick rest step = One IsMoment Tick rest step
+RestSpells setting line.Where rest step = One (IsShard setting.shards) Locate rest step
+RestSpells setting line.View rest step = One IsUser View rest step
 
 -- the words spell the step: the first is a line's name
-abbrev pub WordsSpell : ℕ → List (List ℕ) → Step → Type 0
-WordsSpell shards [] step = ⊥
-WordsSpell shards (first ∷ rest) step = (name : LineName) × IsLineName first name × RestSpells shards name rest step
+abbrev pub WordsSpell : Setting → List (List ℕ) → Step → Type 0
+WordsSpell setting [] step = ⊥
+WordsSpell setting (first ∷ rest) step = (name : LineName) × IsLineName first name × RestSpells setting name rest step
 
--- the line spells the step, where there are these many shards
-abbrev pub Spells : ℕ → List ℕ → Step → Type 0
-Spells shards line step = WordsSpell shards (words_of line) step
+-- the line spells the step, after what the steps before leave to it
+abbrev pub Spells : Setting → List ℕ → Step → Type 0
+Spells setting line step = WordsSpell setting (words_of line) step
 
 -- the line isn't passed over and spells no step
-abbrev pub IsNoStep : ℕ → List ℕ → Type 0
-IsNoStep shards line = (IsPassedOver line → ⊥) × ((step : Step) → Spells shards line step → ⊥)
+abbrev pub IsNoStep : Setting → List ℕ → Type 0
+IsNoStep setting line = (IsPassedOver line → ⊥) × ((step : Step) → Spells setting line step → ⊥)
 
 -- a step for which memory is taken
 abbrev pub TakesMemory : Step → Type 0

@@ -2,6 +2,7 @@
 use Rattle.std.specs.Prelude.{◌≡◌, ℕ, List, Result, Err, IfOk}
 use Rattle.zs_words.specs.declared.fault.LineFault.{LineFault}
 use Rattle.zs_words.specs.declared.fault.LineFault.TheVariants.{NotAStep, NoMemory}
+use Rattle.zs_script.specs.declared.step.Setting.{Setting}
 use Rattle.zs_script.specs.declared.step.Step.{Step}
 use Rattle.zs_script.specs.Grammar.{WordsSpell, TakesMemory}
 
@@ -12,5 +13,5 @@ pub record ReadsStep (spells : Step → Type 0) (answer : Result Step LineFault)
   pub no_memory : answer ≡ Err NoMemory → (step : Step) × spells step × TakesMemory step
 
 -- what is answered for the words of a line
-abbrev pub ReadsWords : ℕ → List (List ℕ) → Result Step LineFault → Type 0
-ReadsWords shards words answer = ReadsStep (WordsSpell shards words) answer
+abbrev pub ReadsWords : Setting → List (List ℕ) → Result Step LineFault → Type 0
+ReadsWords setting words answer = ReadsStep (WordsSpell setting words) answer

@@ -48,10 +48,15 @@ command_name command.ReactionRemove = codes "reaction_remove"
 -- the name of a line
 abbrev pub line_name : LineName → List ℕ
 line_name (line.Command command) = command_name command
+line_name line.Shards = codes "shards"
 line_name line.Notice = codes "notice"
 line_name line.Push = codes "push"
 line_name line.Register = codes "register"
 line_name line.Poll = codes "poll"
+line_name line.Beat = codes "beat"
+line_name line.DeleteQueue = codes "delete_queue"
+line_name line.Tick = codes "tick"
+line_name line.Where = codes "where"
 line_name line.View = codes "view"
 
 -- the lines, commands first
@@ -78,10 +83,15 @@ lines =
     ∷ line.Command command.Flags
     ∷ line.Command command.ReactionAdd
     ∷ line.Command command.ReactionRemove
+    ∷ line.Shards
     ∷ line.Notice
     ∷ line.Push
     ∷ line.Register
     ∷ line.Poll
+    ∷ line.Beat
+    ∷ line.DeleteQueue
+    ∷ line.Tick
+    ∷ line.Where
     ∷ line.View
     ∷ []
 

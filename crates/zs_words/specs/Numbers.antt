@@ -44,6 +44,21 @@ IsMessage word message = IsId word message.0
 abbrev pub IsShard : ℕ → List ℕ → ℕ → Type 0
 IsShard shards word shard = IsId word shard × (shard < shards)
 
+-- how many shards there may be
+abbrev pub max_shards : ℕ
+max_shards = 16
+
+abbrev pub IsShardCount : List ℕ → ℕ → Type 0
+IsShardCount word count = IsNumber word count × (1 ≤ count) × (count ≤ max_shards)
+
+-- the number of a notice, of 64 bits; notices count from 1
+abbrev pub IsNoticeNumber : List ℕ → ℕ → Type 0
+IsNoticeNumber word number = IsNumber word number × (1 ≤ number) × (number < 2 ^ 64)
+
+-- a moment, in seconds, of 64 bits
+abbrev pub IsMoment : List ℕ → ℕ → Type 0
+IsMoment word moment = IsNumber word moment × (moment < 2 ^ 64)
+
 -- the number of a role
 abbrev pub IsRole : List ℕ → Role → Type 0
 IsRole word role = IsNumber word (role_number role)

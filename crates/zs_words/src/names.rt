@@ -40,10 +40,15 @@ pub enum CommandName {
 #[derive(Clone, Copy, Debug, PartialEq, Eq)]
 pub enum LineName {
     Command(CommandName),
+    Shards,
     Notice,
     Push,
     Register,
     Poll,
+    Beat,
+    DeleteQueue,
+    Tick,
+    Where,
     View,
 }
 
@@ -152,10 +157,15 @@ impl Named for LineName {
             LineName::Command(CommandName::Flags),
             LineName::Command(CommandName::ReactionAdd),
             LineName::Command(CommandName::ReactionRemove),
+            LineName::Shards,
             LineName::Notice,
             LineName::Push,
             LineName::Register,
             LineName::Poll,
+            LineName::Beat,
+            LineName::DeleteQueue,
+            LineName::Tick,
+            LineName::Where,
             LineName::View,
         ]
     }
@@ -163,10 +173,15 @@ impl Named for LineName {
     fn name(self) -> &'static str {
         match self {
             LineName::Command(command) => command.command_name(),
+            LineName::Shards => "shards",
             LineName::Notice => "notice",
             LineName::Push => "push",
             LineName::Register => "register",
             LineName::Poll => "poll",
+            LineName::Beat => "beat",
+            LineName::DeleteQueue => "delete_queue",
+            LineName::Tick => "tick",
+            LineName::Where => "where",
             LineName::View => "view",
         }
     }
