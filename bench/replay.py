@@ -1,7 +1,7 @@
 #!/usr/bin/env python3
 """Times the replay of made scripts by the built program.
 
-usage: replay.py PROGRAM [SCRIPT [LINES ..]]
+usage: replay.py PROGRAM [SCRIPT [COUNT ..]]
 
 Build the program first: `rt run` in crates/zulip_main leaves it as out/zulip_main there. Each SCRIPT has an announcement, a
 push and a poll at the end of each hundred lines:
@@ -9,8 +9,12 @@ push and a poll at the end of each hundred lines:
   people    fifty users and ten streams, with renames, subscriptions, unsubscriptions and changes of streams (500 and 1,000)
   messages  twenty users and five streams: of a hundred lines 60 are messages, 25 flags, 10 reactions, and 5 edits, moves,
             deletions and changes of people and streams (2,000 and 4,000)
-All three are timed where none is named. Prints for each count of lines the time, the ratio to the one before, and the greatest
-memory of the program so far.
+  kept      one queue that nobody polls: a rename of the realm, an announcement and a push for each item (5,000 and 10,000 items)
+  passed    one queue whose client polls each item at once (10,000 and 20,000 items)
+  spread    a hundred pushes, each of one event to every queue (2,000 and 4,000 queues); the time of the same lines without the
+            pushes is taken off
+All are timed where none is named. Prints for each count the time, the ratio to the one before, and the greatest memory of the
+program so far.
 """
 import os
 import resource
@@ -96,10 +100,39 @@ def messages(count):
     return rounds(opened(users, streams), count, command, poll_in_turn(users))
 
 
+def one_queue(count, poll):
+    """An item for each count, with what the client does then."""
+    lines = ["user_add 0 ann@x.org Ann 100 k1", "notice", "push 0", "register 1 realm -"]
+    for item in range(count):
+        lines += [f"realm_update 1 name n{item}", "notice", "push 0", *poll(item)]
+    return lines + [f"poll 1 1.0 {count - 1 if poll(0) else -1}"]
+
+
+def kept(count):
+    return one_queue(count, lambda item: [])
+
+
+def passed(count):
+    return one_queue(count, lambda item: [f"poll 1 1.0 {item - 1}"])
+
+
+def spread(count, push=("push 0",)):
+    users = -(-count // 32)
+    lines = ["user_add 0 u1@x.org u1 100 k1"]
+    lines += [f"user_add 1 u{user}@x.org u{user} 400 k{user}" for user in range(2, users + 1)]
+    lines += ["notice", "push 0"] + [f"register {queue // 32 + 1} realm -" for queue in range(count)]
+    for turn in range(100):
+        lines += [f"realm_update 1 name n{turn}", "notice", *push]
+    return lines
+
+
 SCRIPTS = {
     "renames": (renames, [100_000, 200_000]),
     "people": (people, [500, 1_000]),
     "messages": (messages, [2_000, 4_000]),
+    "kept": (kept, [5_000, 10_000]),
+    "passed": (passed, [10_000, 20_000]),
+    "spread": (spread, [2_000, 4_000]),
 }
 
 
@@ -130,8 +163,10 @@ def main():
         before = None
         for count in [int(word) for word in words[2:]] or counts:
             seconds, memory = replay(program, script(count))
+            if script is spread:
+                seconds -= replay(program, spread(count, ()))[0]
             ratio = f", {seconds / before:.2f} times the one before" if before else ""
-            print(f"{name}, {count} lines: {seconds:.3f} s{ratio}, at most {memory / 1024:.1f} MiB")
+            print(f"{name}, {count}: {seconds:.3f} s{ratio}, at most {memory / 1024:.1f} MiB")
             before = seconds
 
 

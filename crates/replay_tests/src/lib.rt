@@ -8,6 +8,8 @@ mod message_stories;
 #[cfg(test)]
 mod ports;
 #[cfg(test)]
+mod queue_stories;
+#[cfg(test)]
 mod run;
 #[cfg(test)]
 mod stories;

@@ -1,7 +1,7 @@
 //! The run of a script, from the bytes that are read to the bytes that are written.
 
 use crate::checks::check_text;
-use crate::{message_stories as later, stories as story};
+use crate::{message_stories as later, queue_stories as queues, stories as story};
 use ev_ports::{MemSink, MemSource};
 use std::alloc::{AllocError, Global};
 use std::process::Abort;
@@ -119,7 +119,7 @@ fn a_last_line_may_lack_its_feed(rt: HostRuntime) -> Result<(), Fail> {
 
 #[test]
 fn a_line_past_the_grammar_ends_a_run(rt: HostRuntime) -> Result<(), Fail> {
-    let script = "user_add 0 ann@x.org Ann 100 k1\npush 0 5\nnotice\n";
+    let script = "user_add 0 ann@x.org Ann 100 k1\npush 1\nnotice\n";
     check(
         &rt,
         replay(rt.alloc(), script)?,
@@ -229,6 +229,38 @@ fn messages_are_regained_and_lost(rt: HostRuntime) -> Result<(), Fail> {
     )
 }
 
+#[test]
+fn each_story_of_queues_is_told(rt: HostRuntime) -> Result<(), Fail> {
+    for (script, told) in &queues::STORIES {
+        check_later(&rt, rt.alloc(), script, told)?;
+    }
+    Ok(())
+}
+
+#[test]
+fn three_shards_are_pushed_and_ticked_each(rt: HostRuntime) -> Result<(), Fail> {
+    check_story(
+        &rt,
+        rt.alloc(),
+        queues::THREE_SHARDS,
+        queues::THREE_SHARDS_TOLD,
+    )
+}
+
+/// A line that isn't in the grammar where it stands: the number of shards is given first or not at
+/// all, and each shard that is named is there.
+const MISPLACED_LINES: [&str; 4] = ["shards 2\n", "push 1\n", "where 1\n", "push 0 0\n"];
+
+#[test]
+fn shards_are_numbered_first_and_then_there(rt: HostRuntime) -> Result<(), Fail> {
+    for line in &MISPLACED_LINES {
+        let script = joined(rt.alloc(), ADD_ANN, line)?;
+        let replayed = replay(rt.alloc(), &script)?;
+        check(&rt, replayed, Status::BadLine { line: 2 }, "committed 1 1\n");
+    }
+    Ok(())
+}
+
 /// The bytes of a line, so many times, behind those of another.
 fn repeated(alloc: Global, first: &str, line: &str, times: u32) -> Result<Vec<u8>, AllocError> {
     let mut script = first.as_bytes().to_vec(alloc)?;
@@ -248,6 +280,41 @@ fn a_user_has_32_queues_at_most(rt: HostRuntime) -> Result<(), Fail> {
     let script = repeated(rt.alloc(), ADD_ANN, "register 1 - -\n", 33)?;
     let replayed = replay_with_faults(rt.alloc(), &script, &[], &[])?;
     assert_eq!(rt; last_line(&replayed.1), "too_many 32");
+    Ok(())
+}
+
+#[test]
+fn a_deleted_queue_makes_room_for_another(rt: HostRuntime) -> Result<(), Fail> {
+    let mut script = repeated(rt.alloc(), ADD_ANN, "register 1 - -\n", 33)?;
+    script.extend_from_slice(b"delete_queue 1 1.0\nregister 1 - -\npoll 1 1.32 -1\n")?;
+    let replayed = replay_with_faults(rt.alloc(), &script, &[], &[])?;
+    assert_eq!(rt; last_line(&replayed.1), "empty 1");
+    Ok(())
+}
+
+/// The last line for a queue that is brought so many renames of the realm and is polled then.
+fn poll_after_renames(alloc: Global, pairs: u32, more: &str) -> Result<(Status, String), Fail> {
+    let opening = "user_add 0 ann@x.org Ann 100 k1\nregister 1 realm -\n";
+    let renames = "realm_update 1 name a\nrealm_update 1 name b\n";
+    let mut script = repeated(alloc, opening, renames, pairs)?;
+    script.extend_from_slice(more.as_bytes())?;
+    script.extend_from_slice(b"notice\npush 0\npoll 1 1.0 -1\n")?;
+    replay_with_faults(alloc, &script, &[], &[])
+}
+
+#[test]
+fn a_queue_keeps_10_000_items(rt: HostRuntime) -> Result<(), Fail> {
+    let replayed = poll_after_renames(rt.alloc(), 5_000, "")?;
+    let line = last_line(&replayed.1);
+    assert!(rt; line.starts_with("answer 10001 {\"events\":[{\"id\":0,"));
+    assert!(rt; line.contains("{\"id\":9999,"));
+    Ok(())
+}
+
+#[test]
+fn with_one_item_more_it_is_gone(rt: HostRuntime) -> Result<(), Fail> {
+    let replayed = poll_after_renames(rt.alloc(), 5_000, "realm_update 1 name a\n")?;
+    assert_eq!(rt; last_line(&replayed.1), "bad_queue");
     Ok(())
 }
 

@@ -36,6 +36,7 @@ push 0
 register 1 * realm_user
 user_update 1 1 Anna
 poll 1 1.0 -1
+push 0 5
 ";
 
 pub const A_POLL_BEFORE_THE_PUSH_TOLD: &str = r##"committed 1 1
@@ -44,6 +45,7 @@ pushed 1
 finished 1 {"last_event_id":-1,"msg":"","queue_id":"00000001-0000-0000-0000-000000000000","realm_users":[{"email":"ann@x.org","full_name":"Ann","is_active":true,"role":100,"user_id":1}],"result":"success","zulip_feature_level":1}
 committed 2
 empty 1
+gap 1 5
 "##;
 
 /// A stream that a user left becomes public: the user is told of it and of its subscriber.
