@@ -1,4 +1,4 @@
-//! Tests of rows sorted by key, of ids and texts, and of small lists.
+//! Tests of rows sorted by key, of ids and texts, of small lists, and of notices.
 #![tactic(auto)]
 
 #[cfg(test)]
@@ -11,3 +11,5 @@ mod rows;
 mod same;
 #[cfg(test)]
 mod texts;
+#[cfg(test)]
+mod types;

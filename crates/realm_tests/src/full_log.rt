@@ -1,6 +1,6 @@
 //! Commands on a realm whose log is full.
 
-use crate::sample_realm::{ANN, LAB, ONE, sample_realm};
+use crate::sample_realm::{ANN, LAB, ONE, of_sample};
 use ev_base::PlainText;
 use std::alloc::Global;
 use std::test::Fail;
@@ -48,15 +48,19 @@ fn check_reaction(alloc: Global, realm: &Realm) -> Result<Result<(), CommitFault
     Ok(told(cmd_marks::check(alloc, realm, ANN, 0, command)))
 }
 
-/// What the checks of a command of each kind tell after so many commits.
-fn checks_after(alloc: Global, commits: u64) -> Result<[Result<(), CommitFault>; 4], Fail> {
-    let realm = sample_realm(alloc, commits)?;
+/// What the checks of a command of each kind tell of a realm.
+fn checks_on(alloc: Global, realm: &Realm) -> Result<[Result<(), CommitFault>; 4], Fail> {
     Ok([
-        check_rename(alloc, &realm)?,
-        check_archive(alloc, &realm),
-        check_delete(alloc, &realm),
-        check_reaction(alloc, &realm)?,
+        check_rename(alloc, realm)?,
+        check_archive(alloc, realm),
+        check_delete(alloc, realm),
+        check_reaction(alloc, realm)?,
     ])
+}
+
+/// And of the sample after so many commits.
+fn checks_after(alloc: Global, commits: u64) -> Result<[Result<(), CommitFault>; 4], Fail> {
+    of_sample(alloc, commits, |realm| checks_on(alloc, realm))
 }
 
 #[test]
