@@ -1,5 +1,5 @@
-use Rattle.zs_script.proofs.PushedShards.{line_pushes}
-use Rattle.zs_script.proofs.reading.pushed_shards_are_there.Goals as goal
+use Rattle.zs_script.proofs.Playable.{line_plays}
+use Rattle.zs_script.proofs.reading.steps_may_be_played.Goals as goal
 
 pub returns : goal.returns
-returns c = line_pushes
+returns c = line_plays
