@@ -1,5 +1,5 @@
 -- What a line spells may be played.
-use Rattle.std.proofs.Common.{◌≡◌, ℕ, Bool, List, [], ◌∷◌, sym, subst}
+use Rattle.std.proofs.Common.{ℕ, Bool, List, [], ◌∷◌, sym, subst}
 use Rattle.zs_words.specs.declared.names.LineName.{LineName}
 use Rattle.zs_words.specs.declared.names.LineName.TheVariants as line
 use Rattle.zs_words.specs.Numbers.{IsUser, IsShard, IsShardCount, IsNoticeNumber, IsMoment, IsQueue, IsEventNumber}
