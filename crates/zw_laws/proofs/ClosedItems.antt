@@ -15,7 +15,7 @@ use Rattle.zw_laws.proofs.EventsSince.{told, since_none, since_split}
 use Rattle.zw_laws.proofs.OneSections.{rows_after-append, rows_after-section, received_enough}
 use Rattle.zw_traces.specs.declared.shard.ShardInput.{ShardInput}
 use Rattle.zw_traces.specs.declared.shard.ShardReply.{ShardReply}
-use Rattle.zw_traces.specs.Items.{Numbered, events_of}
+use Rattle.ev_groups.specs.Items.{Numbered, events_of}
 use Rattle.zw_traces.specs.Account.{Account, Feeding, is_opening_phase, account_after, opened_account, with_events, with_beat, after_push, after_answer, after_empty, after_finish, items_of, count_of, same_queue, is_held, is_due, end_user, new_notices}
 use Rattle.zw_traces.specs.declared.shard.ShardStep.{ShardStep}
 use Rattle.zw_traces.specs.ShardTrace.{ShardAnswers, IsLegalShardBy, Reading, account_of, shard_account, position_of, position_after}

@@ -19,7 +19,7 @@ use Rattle.zw_laws.proofs.Replaying.{later_view}
 use Rattle.zw_laws.proofs.OneSections.{rows_after-section, received_enough}
 use Rattle.zw_traces.specs.declared.shard.ShardInput.{ShardInput}
 use Rattle.zw_traces.specs.declared.shard.ShardReply.{ShardReply}
-use Rattle.zw_traces.specs.Items.{Numbered, events_of}
+use Rattle.ev_groups.specs.Items.{Numbered, events_of}
 use Rattle.zw_traces.specs.declared.shard.ShardStep.{ShardStep}
 use Rattle.zw_traces.specs.ShardTrace.{ShardAnswers, Reading, QueueFinishes, QueuePolls, account_of, shard_account, position_of, position_after, is_asked, shown_items}
 use Rattle.zw_traces.specs.RealmFeeds.{changed_events, viewed, IsLegalOver}

@@ -16,7 +16,7 @@ use Rattle.zw_laws.proofs.Replaying.{overlapping_view}
 use Rattle.zw_laws.proofs.OneSections.{rows_after-section}
 use Rattle.zw_traces.specs.declared.shard.ShardInput.{ShardInput}
 use Rattle.zw_traces.specs.declared.shard.ShardReply.{ShardReply}
-use Rattle.zw_traces.specs.Items.{events_of}
+use Rattle.ev_groups.specs.Items.{events_of}
 use Rattle.zw_traces.specs.Account.{Account, Phase, unopened, opening, live, gone, is_held_phase, is_unopened_phase, Feeding, is_held, items_of}
 use Rattle.zw_traces.specs.declared.shard.ShardStep.{ShardStep}
 use Rattle.zw_traces.specs.ShardTrace.{ShardAccount, Reading, ShardAnswers, IsLegalShard, IsLegalShardBy, account_of, shard_account, position_of, position_after, pushed_events, given_rows, is_asked}

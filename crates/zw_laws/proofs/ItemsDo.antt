@@ -7,7 +7,7 @@ use Rattle.ev_types.specs.Sections.{Sections}
 use Rattle.ev_types.specs.Applying.{applied}
 use Rattle.zw_views.specs.Views.{section_of}
 use Rattle.ev_types.specs.OneSection.{rows_after}
-use Rattle.zw_traces.specs.Items.{Numbered, numbered, events_of}
+use Rattle.ev_groups.specs.Items.{Numbered, numbered, events_of}
 use Rattle.zw_traces.specs.Account.{Account, with_events, with_beat, is_beat, beats}
 use Rattle.zw_traces.proofs.ItemLemmas.{events_of-append, events_of-numbered, with_events-append}
 use Rattle.zw_laws.proofs.OneSections.{beats_quietly, rows_after-append, rows_after-section}

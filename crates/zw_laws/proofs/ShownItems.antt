@@ -5,7 +5,7 @@ use Rattle.ev_types.specs.declared.event.Event.{Event}
 use Rattle.zw_traces.specs.declared.shard.ShardInput.TheVariants.{Poll}
 use Rattle.zw_traces.specs.declared.shard.ShardReply.TheVariants.{Answer}
 use Rattle.zw_traces.specs.declared.shard.ShardStep.{ShardStep}
-use Rattle.zw_traces.specs.Items.{Numbered}
+use Rattle.ev_groups.specs.Items.{Numbered}
 use Rattle.zw_traces.specs.Account.{Account, above, after_answer, beats, count_of, greatest_id, is_beat, items_of, items_to_give, with_beat, with_events}
 use Rattle.zw_traces.specs.ShardTrace.{account_of, given_rows, position_of, pushed_events, shown_items}
 use Rattle.zw_traces.proofs.Few.{greatest_all}

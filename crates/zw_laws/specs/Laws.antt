@@ -19,7 +19,7 @@ use Rattle.zw_traces.specs.declared.shard.ShardReply.{ShardReply}
 use Rattle.zw_traces.specs.declared.shard.ShardReply.TheVariants.{Answer, Empty, Finished}
 use Rattle.zw_traces.specs.declared.shard.ShardStep.{ShardStep}
 use Rattle.zw_traces.specs.RealmTrace.{Accepted, IsLegalRealm, announced_count, commands, commits, is_active_after, prefix_of, view_after, view_in}
-use Rattle.zw_traces.specs.Items.{events_of}
+use Rattle.ev_groups.specs.Items.{events_of}
 use Rattle.zw_traces.specs.Account.{above, count_of, is_held, is_live_phase, items_of, kept_of, max_kept}
 use Rattle.zw_traces.specs.ShardTrace.{IsLegalShard, is_asked, position_of, pushed_events, shard_account}
 use Rattle.zw_traces.specs.RealmFeeds.{Feeds, IsLegalOver, IsParted, WasFetched, account_over, changed_events, events_since}

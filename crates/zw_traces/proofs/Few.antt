@@ -8,7 +8,7 @@ use Rattle.ev_types.specs.declared.event.Event.TheVariants.{Heartbeat}
 use Rattle.ev_types.specs.OneSection.{received}
 use Rattle.zw_traces.specs.declared.shard.ShardInput.{ShardInput}
 use Rattle.zw_traces.specs.declared.shard.ShardReply.{ShardReply}
-use Rattle.zw_traces.specs.Items.{Numbered}
+use Rattle.ev_groups.specs.Items.{Numbered}
 use Rattle.zw_traces.specs.Account.{Account, Feeding, account_after, opened_account, with_events, beats, is_beat, is_empty, is_over, after_push, after_answer, after_empty, after_finish, items_of, kept_of, above, not_above, greatest_id, count_of, same_queue, is_held, is_due, end_user, new_notices, max_kept, max_ids}
 use Rattle.zw_traces.specs.declared.shard.ShardStep.{ShardStep}
 use Rattle.zw_traces.specs.ShardTrace.{ShardAnswers, IsLegalShardBy, Reading, account_of, shard_account, position_of}

@@ -5,7 +5,7 @@ use Rattle.ev_types.specs.declared.event.Event.{Event}
 use Rattle.ev_types.specs.OneSection.{received}
 use Rattle.zw_traces.specs.declared.shard.ShardInput.{ShardInput}
 use Rattle.zw_traces.specs.declared.shard.ShardReply.{ShardReply}
-use Rattle.zw_traces.specs.Items.{numbered}
+use Rattle.ev_groups.specs.Items.{numbered}
 use Rattle.zw_traces.specs.Account.{Account, Feeding, account_after, unopened_account, opened_account, with_events, with_beat, is_beat, is_over, ended_if, beats, after_handing_out, after_push, after_answer, after_empty, after_finish, items_of, above, not_above, count_of, same_queue, is_held, is_due, end_user, new_notices}
 use Rattle.zw_traces.specs.declared.shard.ShardStep.{ShardStep}
 use Rattle.zw_traces.specs.ShardTrace.{ShardAnswers, IsLegalShardBy, Reading, account_of, shard_account, position_of}

@@ -2,7 +2,8 @@
 use Rattle.std.proofs.Common.{◌≡◌, ℕ, ◌+◌, ◌<◌, ◌≤◌, max, Bool, true, false, cond, not, nat_lt, List, [], ◌∷◌, ◌++◌, length, fold, filter, append-nil, append_assoc, refl, ap, sym, subst, ◌∙◌, arith}
 use Rattle.std.proofs.lemmas.Bool.{ltb-false, ltb-true, lt-ltb, le-ltb}
 use Rattle.ev_types.specs.declared.event.Event.{Event}
-use Rattle.zw_traces.specs.Items.{Numbered, numbered, events_of, with_event}
+use Rattle.ev_groups.specs.Items.{Numbered, numbered, events_of}
+use Rattle.ev_groups.specs.Groups.{with_event}
 use Rattle.zw_traces.specs.Account.{above, not_above, greatest_id}
 
 -- a test on each id

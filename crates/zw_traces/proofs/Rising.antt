@@ -5,7 +5,8 @@ use Rattle.ev_types.specs.declared.event.Event.{Event}
 use Rattle.ev_types.specs.OneSection.{received}
 use Rattle.zw_traces.specs.declared.shard.ShardInput.{ShardInput}
 use Rattle.zw_traces.specs.declared.shard.ShardReply.{ShardReply}
-use Rattle.zw_traces.specs.Items.{Numbered, numbered, with_event}
+use Rattle.ev_groups.specs.Items.{Numbered, numbered}
+use Rattle.ev_groups.specs.Groups.{with_event}
 use Rattle.zw_traces.specs.Account.{Account, Feeding, account_after, opened_account, with_events, beats, is_beat, after_push, after_answer, after_empty, after_finish, items_of, above, count_of, same_queue, is_held, end_user, new_notices, max_kept}
 use Rattle.zw_traces.specs.declared.shard.ShardStep.{ShardStep}
 use Rattle.zw_traces.specs.ShardTrace.{IsLegalShardBy, Reading, account_of, position_of}

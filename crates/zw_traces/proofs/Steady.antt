@@ -9,7 +9,7 @@ use Rattle.ev_types.specs.declared.event.Item.{Item}
 use Rattle.ev_types.specs.OneSection.{received}
 use Rattle.zw_traces.specs.declared.shard.ShardInput.{ShardInput}
 use Rattle.zw_traces.specs.declared.shard.ShardReply.{ShardReply}
-use Rattle.zw_traces.specs.Items.{Numbered}
+use Rattle.ev_groups.specs.Items.{Numbered}
 use Rattle.zw_traces.specs.RealmFeeds.{opening_place}
 use Rattle.zw_traces.specs.Account.{is_unopened_phase, Account, Feeding, Phase, unopened, opening, live, gone, is_opening_phase, is_held_phase, account_after, opened_account, with_events, with_beat, beats, is_beat, is_over, items_to_give, after_push, after_answer, after_empty, after_finish, items_of, above, not_above, count_of, same_user, same_queue, is_held, is_due, end_user, new_notices}
 use Rattle.zw_traces.specs.declared.shard.ShardStep.{ShardStep}

@@ -1,5 +1,5 @@
 -- Items: events with the ids that a queue gave them.
-use Rattle.std.specs.Prelude.{ℕ, ◌+◌, List, [], ◌∷◌, ◌++◌, map}
+use Rattle.std.specs.Prelude.{ℕ, ◌+◌, List, [], ◌∷◌, map}
 use Rattle.ev_types.specs.declared.event.Event.{Event}
 
 -- an event with its id, counted from 1
@@ -15,7 +15,3 @@ event_of item = item.1
 
 abbrev pub events_of : List Numbered → List Event
 events_of items = map event_of items
-
--- a new event behind the items since the last cut
-abbrev pub with_event : List Numbered → Numbered → List Numbered
-with_event items new = items ++ new ∷ []

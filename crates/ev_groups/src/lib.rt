@@ -1,0 +1,2 @@
+//! Events with their ids, and changes of flags that become one item.
+#![tactic(auto)]
