@@ -37,6 +37,14 @@ module _ (P : ℕ → Type 0) where
   pub ids_filter : (test : Numbered → Bool) (xs : List Numbered) → AllIds P xs → AllIds P (filter test xs)
   ids_filter test xs are = All-filter test OfItem xs are
 
+  pub ids_first : (xs ys : List Numbered) → AllIds P (xs ++ ys) → AllIds P xs
+  ids_first [] ys are = ids_nil
+  ids_first (x ∷ xs) ys are = ids_cons x xs (ids_head x (xs ++ ys) are) (ids_first xs ys (ids_tail x (xs ++ ys) are))
+
+  pub ids_second : (xs ys : List Numbered) → AllIds P (xs ++ ys) → AllIds P ys
+  ids_second [] ys are = are
+  ids_second (x ∷ xs) ys are = ids_second xs ys (ids_tail x (xs ++ ys) are)
+
   -- the ids after an event are the old ones and its own
   with_change_ids : (xs : List Numbered) (id : ℕ) (change : FlagChange) → AllIds P xs → P id → AllIds P (with_change xs id change)
   with_change_ids [] id change are is = ids_one (id, Flags change) is
@@ -64,6 +72,12 @@ module _ (P : ℕ → Type 0) where
 -- a weaker test
 pub ids_weaker : (P Q : ℕ → Type 0) → ((id : ℕ) → P id → Q id) → (xs : List Numbered) → AllIds P xs → AllIds Q xs
 ids_weaker P Q f xs are = All-weaker (λ (item : Numbered). P item.0) (λ (item : Numbered). Q item.0) (λ item is. f item.0 is) xs are
+
+-- two tests at once
+pub ids_both : (P Q : ℕ → Type 0) → (xs : List Numbered) → AllIds P xs → AllIds Q xs → AllIds (λ id. P id × Q id) xs
+ids_both P Q [] first second = ids_nil (λ id. P id × Q id)
+ids_both P Q (x ∷ xs) first second =
+    ids_cons (λ id. P id × Q id) x xs (ids_head P x xs first, ids_head Q x xs second) (ids_both P Q xs (ids_tail P x xs first) (ids_tail Q x xs second))
 
 pub grouped-append : (xs ys : List Numbered) → grouped (xs ++ ys) ≡ fold with_event (grouped xs) ys
 grouped-append xs ys = fold-append with_event [] xs ys
@@ -132,6 +146,15 @@ sorted-append most (x ∷ xs) ys first second low high =
     sorted-cons x (xs ++ ys) (ids_append (λ n. x.0 < n) xs ys (sorted_head x xs first) (ids_weaker (λ n. most < n) (λ n. x.0 < n) (λ n is. omega arith) ys high))
     (sorted-append most xs ys (sorted_tail x xs first) second (ids_tail (λ n. n ≤ most) x xs low) high)
 
+pub sorted_first : (xs ys : List Numbered) → SortedByKey nat_cmp (xs ++ ys) → SortedByKey nat_cmp xs
+sorted_first [] ys sorted = rise-nil nat_cmp
+sorted_first (x ∷ xs) ys sorted =
+    sorted-cons x xs (ids_first (λ n. x.0 < n) xs ys (sorted_head x (xs ++ ys) sorted)) (sorted_first xs ys (sorted_tail x (xs ++ ys) sorted))
+
+pub sorted_second : (xs ys : List Numbered) → SortedByKey nat_cmp (xs ++ ys) → SortedByKey nat_cmp ys
+sorted_second [] ys sorted = sorted
+sorted_second (x ∷ xs) ys sorted = sorted_second xs ys (sorted_tail x (xs ++ ys) sorted)
+
 -- one item behind those whose ids are below its own
 sorted_push : (xs : List Numbered) (new : Numbered) → SortedByKey nat_cmp xs → AllIds (λ n. n < new.0) xs → SortedByKey nat_cmp (xs ++ new ∷ [])
 sorted_push [] new sorted low = sorted_one new
@@ -164,6 +187,6 @@ with_events_sorted xs used (event ∷ events) sorted low =
     (with_event_sorted xs (used + 1, event) sorted (ids_weaker (λ n. n ≤ used) (λ n. n < used + 1) (λ n is. omega arith) xs low))
     (with_event_ids (λ n. n ≤ used + 1) xs (used + 1, event) (ids_weaker (λ n. n ≤ used) (λ n. n ≤ used + 1) (λ n is. omega arith) xs low) (omega arith))
 
--- fewer items, sorted as they were
+-- some of the items
 pub sorted-filter : (test : Numbered → Bool) (xs : List Numbered) → SortedByKey nat_cmp xs → SortedByKey nat_cmp (filter test xs)
 sorted-filter test xs sorted = rise-filter nat_cmp test xs sorted

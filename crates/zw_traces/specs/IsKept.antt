@@ -1,5 +1,5 @@
 -- What holds of the account of a queue that is opening or live, without its pruned items.
-use Rattle.std.specs.Prelude.{◌≡◌, ℕ, ◌<◌, ◌≤◌, true, length}
+use Rattle.std.specs.Prelude.{◌≡◌, ◌<◌, ◌≤◌, true, length}
 use Rattle.std.specs.Ordering.{nat_cmp}
 use Rattle.ev_rows.specs.Rows.{SortedByKey}
 pub use Rattle.ev_groups.specs.Items.{AllIds}
