@@ -1,0 +1,4 @@
+mod Samples
+mod GroupFolds
+mod FlagCells
+pub mod GroupedApply
