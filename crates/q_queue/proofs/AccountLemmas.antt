@@ -8,9 +8,9 @@ use Rattle.ev_types.specs.declared.event.Event.{Event}
 use Rattle.ev_types.specs.declared.kind.Types.{Types}
 use Rattle.ev_types.specs.declared.section.Section.{Section}
 use Rattle.zw_traces.specs.Account.{Account, above, after_finish, greatest_id, is_over, items_of, live, max_ids, max_kept, opened_account, with_events}
-use Rattle.zw_traces.specs.Items.{Numbered, numbered}
+use Rattle.ev_groups.specs.Items.{Numbered, numbered}
 use Rattle.zw_traces.specs.KeptAccount.{without_pruned}
-use Rattle.q_queue.specs.IsKept.{AllIds, IsKept}
+use Rattle.zw_traces.specs.IsKept.{AllIds, IsKept}
 use Rattle.q_queue.proofs.ItemLemmas.{ids_weaker, ids_append, ids_nil, add_items, length-numbered, numbered_ids, above_all, above_none, greatest_all, greatest_within, sorted-append, sorted-numbered}
 
 pub opened_kept : (types : Types) (asked : List Section) (at moment : ℕ) → IsKept (opened_account types asked at moment)

@@ -12,8 +12,9 @@ use Rattle.ev_rows.proofs.PlaceLemmas.{below-from_rise}
 use Rattle.ev_rows.proofs.RangeLemmas.{filter_parts}
 use Rattle.ev_types.specs.declared.event.Event.{Event}
 use Rattle.zw_traces.specs.Account.{above, not_above, greatest_id}
-use Rattle.zw_traces.specs.Items.{Numbered, numbered, with_event}
-use Rattle.q_queue.specs.IsKept.{AllIds}
+use Rattle.ev_groups.specs.Items.{Numbered, numbered}
+use Rattle.ev_groups.specs.Groups.{with_event}
+use Rattle.zw_traces.specs.IsKept.{AllIds}
 
 -- a weaker test on each id
 pub ids_weaker : (P Q : ℕ → Type 0) → ((id : ℕ) → P id → Q id) → (xs : List Numbered) → AllIds P xs → AllIds Q xs

@@ -9,7 +9,7 @@ use Rattle.zw_traces.specs.declared.shard.ShardReply.{ShardReply}
 use Rattle.zw_traces.specs.declared.shard.ShardReply.TheVariants.{Answer, Empty}
 use Rattle.zw_traces.specs.Account.{Account, Feeding, above, account_after, after_answer, after_empty, after_push, count_of, ended_if, is_over, same_queue, unopened_account, with_events}
 use Rattle.zw_traces.specs.KeptAccount.{kept_account, without_pruned}
-use Rattle.q_queue.specs.IsKept.{IsKept}
+use Rattle.zw_traces.specs.IsKept.{IsKept}
 use Rattle.q_queue.specs.Polled.{polled}
 use Rattle.q_queue.proofs.ItemLemmas.{above_all, ids_weaker}
 

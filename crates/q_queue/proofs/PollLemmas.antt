@@ -10,10 +10,10 @@ use Rattle.ev_rows.proofs.RiseLemmas.{rise-nil, rise-cons}
 use Rattle.ev_types.specs.declared.event.Event.TheVariants.{Heartbeat}
 use Rattle.zw_traces.specs.declared.shard.ShardReply.{ShardReply}
 use Rattle.zw_traces.specs.Account.{Account, above, after_empty, after_handing_out, beats, count_of, greatest_id, is_beat, is_below_all, is_empty, is_live_phase, items_of, items_to_give, max_ids, max_kept, not_above, same_user, with_beat, with_events, with_moment}
-use Rattle.zw_traces.specs.Items.{Numbered}
+use Rattle.ev_groups.specs.Items.{Numbered}
 use Rattle.zw_traces.specs.KeptAccount.{without_pruned}
 use Rattle.zw_traces.specs.ShardTrace.{AnswersItems, QueuePolls}
-use Rattle.q_queue.specs.IsKept.{AllIds, IsKept}
+use Rattle.zw_traces.specs.IsKept.{AllIds, IsKept}
 use Rattle.q_queue.specs.Polled.{after_heartbeat, heartbeat}
 use Rattle.q_queue.specs.QueueValue.{QueueValue}
 use Rattle.q_queue.specs.Stored.{IsStored, account_of}

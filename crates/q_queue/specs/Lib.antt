@@ -1,4 +1,3 @@
-pub mod IsKept
 pub mod Polled
 pub mod QueueValue
 pub mod Stored

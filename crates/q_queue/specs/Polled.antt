@@ -4,7 +4,7 @@ use Rattle.ev_types.specs.declared.event.Event.TheVariants.{Heartbeat}
 use Rattle.zw_traces.specs.declared.shard.ShardReply.{ShardReply}
 use Rattle.zw_traces.specs.declared.shard.ShardReply.TheVariants.{Answer, Empty}
 use Rattle.zw_traces.specs.Account.{Account, after_answer, after_empty, count_of, greatest_id, items_of}
-use Rattle.zw_traces.specs.Items.{Numbered}
+use Rattle.ev_groups.specs.Items.{Numbered}
 use Rattle.zw_traces.specs.KeptAccount.{without_pruned}
 
 -- by the reply, where count ids are acknowledged; a reply that refuses changes nothing

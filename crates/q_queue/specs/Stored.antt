@@ -1,7 +1,7 @@
 -- What a queue stores: one list of items, with the place of the cut.
 use Rattle.std.specs.Prelude.{◌≤◌, Bool, if◌then◌else◌, length, take, drop}
 use Rattle.zw_traces.specs.Account.{Account, Phase, opening, live}
-use Rattle.q_queue.specs.IsKept.{IsKept}
+use Rattle.zw_traces.specs.IsKept.{IsKept}
 use Rattle.q_queue.specs.declared.queue.Queue.TheInside.{Inside}
 
 abbrev pub held_phase : Bool → Phase

@@ -3,11 +3,11 @@
 ghost use Rattle.std.specs.Prelude.{◌≡◌, ◌+◌, ◌||◌, nat_lt, ◌≤◌, ◌<◌, ◌↔◌, ◌∷◌, [], IfErr, IfOk, length, true};
 ghost use Rattle.ev_base.specs.declared.ids.UserId.{UserId};
 ghost use Rattle.zw_traces.specs.Account.{after_finish, after_handing_out, id_of, is_due, is_live_phase, is_opening_phase, is_over, items_of, items_to_give, max_ids, max_kept, opened_account, with_events, with_moment};
-ghost use Rattle.zw_traces.specs.Items.{events_of};
+ghost use Rattle.ev_groups.specs.Items.{events_of};
 ghost use Rattle.zw_traces.specs.KeptAccount.{without_pruned};
 ghost use Rattle.zw_traces.specs.ShardTrace.{AnswersItems, QueuePolls, shown_items};
 ghost use Rattle.q_queue.specs.declared.queue.Pushed.TheVariants as pushed;
-ghost use Rattle.q_queue.specs.IsKept.{IsKept};
+ghost use Rattle.zw_traces.specs.IsKept.{IsKept};
 ghost use Rattle.q_queue.specs.Polled.{after_heartbeat, answered, heartbeat, polled};
 
 use crate::ids::{count_of, id_of, is_below_all};

@@ -18,7 +18,7 @@ use Rattle.zw_traces.specs.declared.shard.FetchedSection.{FetchedSection}
 use Rattle.zw_traces.specs.declared.shard.ShardReply.{ShardReply}
 use Rattle.zw_traces.specs.declared.shard.ShardReply.TheVariants.{Finished, Opened, Pushed, TooManyQueues}
 use Rattle.zw_traces.specs.FetchedSections.{all_sections, first_missing, needed, part_of}
-use Rattle.zw_traces.specs.Items.{events_of}
+use Rattle.ev_groups.specs.Items.{events_of}
 use Rattle.zw_traces.specs.ShardTrace.{OrNoMemory, Pushes, QueueFinishes, Starts, expiries, expiry, given_rows, max_held, max_opens, next_queue, opened_by}
 use Rattle.ev_types.specs.declared.notice.Notice.{Notice}
 use Rattle.q_shard.specs.HeldQueues.{AreHeld, HeldQueue, ShardState, account_in, accounts_of, expiries_in, expiry_in, opens_in, seen, stays_of}

@@ -8,7 +8,7 @@ use Rattle.ev_types.specs.declared.event.Item.{Item}
 use Rattle.zw_traces.specs.declared.shard.ShardInput.TheVariants.{Poll}
 use Rattle.zw_traces.specs.declared.shard.ShardReply.TheVariants.{Answer}
 use Rattle.zw_traces.specs.declared.shard.ShardStep.{ShardStep}
-use Rattle.zw_traces.specs.Items.{Numbered}
+use Rattle.ev_groups.specs.Items.{Numbered}
 use Rattle.zw_traces.specs.Account.{Account, Feeding, after_answer, beats, count_of, is_above, is_beat, is_held, items_of, items_to_give, not_above, with_beat}
 use Rattle.zw_traces.specs.ShardTrace.{IsLegalShardBy, Reading, account_of, position_of, shown_items}
 use Rattle.zw_traces.proofs.Few.{greatest_all}

@@ -10,7 +10,7 @@ use Rattle.ev_types.specs.OneSection.{rows_after}
 use Rattle.zw_traces.specs.declared.realm.RealmStep.{RealmStep}
 use Rattle.zw_traces.specs.RealmTrace.{IsLegalRealm, commands}
 use Rattle.zw_laws.proofs.OneSections.{rows_after-section}
-use Rattle.zw_traces.specs.Items.{Numbered, events_of}
+use Rattle.ev_groups.specs.Items.{Numbered, events_of}
 use Rattle.zw_traces.specs.Account.{Feeding, is_empty, items_of, above, count_of, with_beat}
 use Rattle.zw_traces.specs.declared.shard.ShardStep.{ShardStep}
 use Rattle.zw_traces.specs.ShardTrace.{account_of, position_of, is_asked}

@@ -12,7 +12,7 @@ use Rattle.zw_traces.specs.Account.{id_of, is_below_all, Account, Feeding, Phase
 use Rattle.zw_traces.specs.FetchedSections.{first_missing, all_sections, needed, part_of}
 use Rattle.zw_traces.specs.declared.shard.ShardInput.{ShardInput}
 use Rattle.zw_traces.specs.declared.shard.ShardReply.{ShardReply}
-use Rattle.zw_traces.specs.Items.{Numbered, events_of}
+use Rattle.ev_groups.specs.Items.{Numbered, events_of}
 use Rattle.zw_traces.specs.declared.shard.ShardStep.{ShardStep}
 use Rattle.zw_traces.specs.ShardTrace.{ShardAccount, Reading, ShardAnswers, QueueFinishes, QueuePolls, AnswersItems, OrNoMemory, shard_account, position_after, opened_queues, opened_after, pushed_events, given_rows, is_asked, opened_by, expiries, IsLegalShardBy}
 use Rattle.zw_traces.specs.KeptAccount.{without_pruned, kept_account, kept_shard, shard_after, opens_after, Represents}

@@ -15,7 +15,8 @@ use Rattle.zw_traces.specs.declared.shard.ShardInput.{ShardInput}
 use Rattle.zw_traces.specs.declared.shard.ShardInput.TheVariants.{Start, Push, Finish, Poll, Delete, Tick}
 use Rattle.zw_traces.specs.declared.shard.ShardReply.{ShardReply}
 use Rattle.zw_traces.specs.declared.shard.ShardReply.TheVariants.{Opened, Pushed, Finished, Answer, Empty, Deleted, Ticked}
-use Rattle.zw_traces.specs.Items.{Numbered, numbered, with_event}
+use Rattle.ev_groups.specs.Items.{Numbered, numbered}
+use Rattle.ev_groups.specs.Groups.{with_event}
 
 -- both are the same user
 abbrev pub same_user : UserId → UserId → Bool

@@ -1,9 +1,9 @@
 pub mod RealmTrace
-pub mod Items
 pub mod FetchedSections
 pub mod Account
 pub mod ShardTrace
 pub mod RealmFeeds
 pub mod Histories
 pub mod KeptAccount
+pub mod IsKept
 pub mod Clients

@@ -18,7 +18,7 @@ use Rattle.zw_traces.specs.declared.shard.ShardInput.TheVariants.{Start, Push, F
 use Rattle.zw_traces.specs.declared.shard.ShardReply.{ShardReply}
 use Rattle.zw_traces.specs.declared.shard.ShardStep.{ShardStep}
 use Rattle.zw_traces.specs.declared.shard.ShardReply.TheVariants.{Opened, OpensSpent, TooManyQueues, Pushed, Gap, Finished, MissingSection, NotPushed, Answer, Empty, BadQueue, NotSent, Pruned, Deleted, Ticked, At, NoMemory}
-use Rattle.zw_traces.specs.Items.{Numbered, events_of}
+use Rattle.ev_groups.specs.Items.{Numbered, events_of}
 use Rattle.zw_traces.specs.Account.{Account, Feeding, unopened_account, account_after, same_user, count_of, is_opening_phase, is_live_phase, is_held, is_due, items_of, is_empty, items_to_give, new_notices, id_of, is_below_all}
 
 -- how many notices were pushed

@@ -1,5 +1,5 @@
 use Rattle.std.proofs.Common.{◌≡◌, ◌+◌, ◌≤◌, ◌++◌, length, vec_capacity, vec_len}
-use Rattle.zw_traces.specs.Items.{numbered}
+use Rattle.ev_groups.specs.Items.{numbered}
 use Rattle.q_queue.proofs.items.add_all.Given as goal
 
 abbrev pub invariant-loop-event : goal.invariant-loop-event

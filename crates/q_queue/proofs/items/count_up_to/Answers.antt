@@ -1,6 +1,6 @@
 use Rattle.std.proofs.Common.{nat_le, rules}
 use Rattle.std.proofs.lemmas.Fn.{always_returns_same}
-use Rattle.zw_traces.specs.Items.{Numbered}
+use Rattle.ev_groups.specs.Items.{Numbered}
 use Rattle.q_queue.proofs.ItemLemmas.{partitioned_ids, parted}
 use Rattle.q_queue.proofs.items.count_up_to.Goals as goal
 

@@ -1,5 +1,5 @@
 use Rattle.std.proofs.Common.{◌≡◌, take}
-use Rattle.zw_traces.specs.Items.{events_of}
+use Rattle.ev_groups.specs.Items.{events_of}
 use Rattle.q_queue.proofs.items.events_of.Given as goal
 
 abbrev pub invariant-loop-event : goal.invariant-loop-event

@@ -1,10 +1,10 @@
 use Rattle.std.proofs.Common.{◌-◌, ◌<◌, ◌≤◌, ◌^◌, Bool, List, drop, length, take, inl, inr, ap, sym, subst, ◌∙◌, arith, take-append-drop, refl}
 use Rattle.zw_traces.specs.declared.shard.ShardReply.TheVariants.{Answer, NoMemory}
 use Rattle.zw_traces.specs.Account.{after_answer, max_ids}
-use Rattle.zw_traces.specs.Items.{Numbered}
+use Rattle.ev_groups.specs.Items.{Numbered}
 use Rattle.zw_traces.specs.KeptAccount.{without_pruned}
 use Rattle.zw_traces.specs.ShardTrace.{AnswersItems}
-use Rattle.q_queue.specs.IsKept.{AllIds}
+use Rattle.zw_traces.specs.IsKept.{AllIds}
 use Rattle.q_queue.specs.QueueValue.{QueueValue}
 use Rattle.q_queue.specs.Stored.{account_of}
 use Rattle.q_queue.proofs.ItemLemmas.{ids_in_slice, ids_weaker}

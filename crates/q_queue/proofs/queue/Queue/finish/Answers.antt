@@ -1,7 +1,7 @@
 use Rattle.std.proofs.Common.{◌≡◌, [], ap, sym, subst, ◌∙◌, arith, take-append-drop}
 use Rattle.zw_traces.specs.Account.{after_finish, greatest_id, items_of, live}
 use Rattle.zw_traces.specs.KeptAccount.{without_pruned}
-use Rattle.q_queue.specs.IsKept.{IsKept}
+use Rattle.zw_traces.specs.IsKept.{IsKept}
 use Rattle.q_queue.specs.Stored.{account_of}
 use Rattle.q_queue.proofs.AccountLemmas.{finished_kept, finished_is}
 use Rattle.q_queue.proofs.queue.Queue.finish.Goals as goal

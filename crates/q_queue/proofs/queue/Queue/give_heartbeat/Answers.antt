@@ -1,7 +1,7 @@
 use Rattle.std.proofs.Common.{◌≡◌, ◌+◌, ◌<◌, List, [], ◌∷◌, ◌++◌, drop, take, length, ap, sym, subst, ◌∙◌, arith, take-append-drop}
 use Rattle.zw_traces.specs.Account.{greatest_id, items_of, max_ids}
-use Rattle.zw_traces.specs.Items.{Numbered}
-use Rattle.q_queue.specs.IsKept.{IsKept}
+use Rattle.ev_groups.specs.Items.{Numbered}
+use Rattle.zw_traces.specs.IsKept.{IsKept}
 use Rattle.q_queue.specs.Polled.{heartbeat}
 use Rattle.q_queue.specs.QueueValue.{QueueValue}
 use Rattle.q_queue.specs.Stored.{account_of}

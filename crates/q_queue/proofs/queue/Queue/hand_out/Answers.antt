@@ -2,7 +2,7 @@ use Rattle.std.proofs.Common.{◌≡◌, ◌-◌, ◌≤◌, drop, length, take,
 use Rattle.std.proofs.lemmas.List.{take_rest}
 use Rattle.zw_traces.specs.Account.{above, after_handing_out, greatest_id, items_of, not_above, with_moment}
 use Rattle.zw_traces.specs.KeptAccount.{without_pruned}
-use Rattle.q_queue.specs.IsKept.{IsKept}
+use Rattle.zw_traces.specs.IsKept.{IsKept}
 use Rattle.q_queue.specs.QueueValue.{QueueValue}
 use Rattle.q_queue.specs.Stored.{account_of}
 use Rattle.q_queue.proofs.PollLemmas.{handed_out, handed_out_kept}

@@ -1,8 +1,8 @@
 use Rattle.std.proofs.Common.{◌≡◌, ◌+◌, ◌||◌, nat_lt, drop, length, take, ap, sym, subst, ◌∙◌, arith, refl, length-append}
 use Rattle.std.proofs.lemmas.Bool.{false≢true, ltb-false, or_parts}
 use Rattle.zw_traces.specs.Account.{items_of, max_ids, max_kept, with_events}
-use Rattle.zw_traces.specs.Items.{numbered}
-use Rattle.q_queue.specs.IsKept.{IsKept}
+use Rattle.ev_groups.specs.Items.{numbered}
+use Rattle.zw_traces.specs.IsKept.{IsKept}
 use Rattle.q_queue.specs.QueueValue.{QueueValue}
 use Rattle.q_queue.specs.Stored.{account_of}
 use Rattle.q_queue.proofs.AccountLemmas.{is_over_is, pushed_is, with_events_kept, more_is}

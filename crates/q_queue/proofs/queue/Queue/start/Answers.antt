@@ -1,7 +1,7 @@
 use Rattle.std.proofs.Common.{List, sym, subst, arith}
 use Rattle.zw_traces.specs.Account.{opened_account}
-use Rattle.zw_traces.specs.Items.{Numbered}
-use Rattle.q_queue.specs.IsKept.{IsKept}
+use Rattle.ev_groups.specs.Items.{Numbered}
+use Rattle.zw_traces.specs.IsKept.{IsKept}
 use Rattle.q_queue.proofs.AccountLemmas.{opened_kept}
 use Rattle.q_queue.proofs.queue.Queue.start.Goals as goal
 

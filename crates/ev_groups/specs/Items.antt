@@ -1,5 +1,6 @@
 -- Items: events with the ids that a queue gave them.
-use Rattle.std.specs.Prelude.{ℕ, ◌+◌, List, [], ◌∷◌, ◌++◌, map}
+use Rattle.std.specs.Prelude.{ℕ, ◌+◌, List, [], ◌∷◌, map}
+use Rattle.std.specs.List.{All}
 use Rattle.ev_types.specs.declared.event.Event.{Event}
 
 -- an event with its id, counted from 1
@@ -16,6 +17,6 @@ event_of item = item.1
 abbrev pub events_of : List Numbered → List Event
 events_of items = map event_of items
 
--- a new event behind the items since the last cut
-abbrev pub with_event : List Numbered → Numbered → List Numbered
-with_event items new = items ++ new ∷ []
+-- a test on each id
+abbrev pub AllIds : (ℕ → Type 0) → List Numbered → Type 0
+AllIds P items = All (λ (item : Numbered). P item.0) items
