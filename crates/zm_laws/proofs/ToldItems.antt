@@ -1,6 +1,8 @@
 -- The items that were answered for a queue show for good what stands under their ids in its account.
 use Rattle.std.proofs.Common.{◌≡◌, ℕ, ◌<◌, ◌≤◌, Bool, true, false, cond, filter, nat_lt, eqb, Some, ℤ, List, [], ◌∷◌, ◌++◌, append-nil, refl, ap, sym, subst, ◌∙◌, arith}
 use Rattle.std.proofs.lemmas.Bool.{eq-eqb, eqb-true, ltb-true, le-ltb}
+use Rattle.std.specs.Ordering.{nat_cmp}
+use Rattle.ev_rows.specs.Rows.{SortedByKey}
 use Rattle.ev_base.specs.declared.ids.UserId.{UserId}
 use Rattle.ev_base.specs.declared.ids.QueueId.{QueueId}
 use Rattle.ev_types.specs.declared.event.Event.{Event}
@@ -8,14 +10,14 @@ use Rattle.ev_types.specs.declared.event.Item.{Item}
 use Rattle.zw_traces.specs.declared.shard.ShardInput.TheVariants.{Poll}
 use Rattle.zw_traces.specs.declared.shard.ShardReply.TheVariants.{Answer}
 use Rattle.zw_traces.specs.declared.shard.ShardStep.{ShardStep}
-use Rattle.ev_groups.specs.Items.{Numbered}
+use Rattle.ev_groups.specs.Items.{AllIds, Numbered}
+use Rattle.ev_groups.proofs.Ids.{ids_head, ids_tail, sorted_head, sorted_tail}
 use Rattle.zw_traces.specs.Account.{Account, Feeding, after_answer, beats, count_of, is_above, is_beat, is_held, items_of, items_to_give, not_above, with_beat}
 use Rattle.zw_traces.specs.ShardTrace.{IsLegalShardBy, Reading, account_of, position_of, shown_items}
-use Rattle.zw_traces.proofs.Few.{greatest_all}
 use Rattle.zw_traces.proofs.Insides.{inside, inside_with_events}
-use Rattle.zw_traces.proofs.ItemLemmas.{AllIds}
+use Rattle.zw_traces.proofs.ItemLemmas.{greatest_all}
 use Rattle.zw_traces.proofs.Phases.{live_is_held}
-use Rattle.zw_traces.proofs.Rising.{Rises, all_rise, more_rise, rise}
+use Rattle.zw_traces.proofs.Rising.{all_rise, more_rise, rise}
 use Rattle.zw_traces.proofs.Steady.{event_at, steady}
 use Rattle.zw_traces.proofs.Steps.{answered_tells, same_queue_itself}
 use Rattle.zw_traces.proofs.Traces.{earlier_legal}
@@ -30,19 +32,19 @@ AllFound items (x ∷ xs) = (event_at x.0 (not_above x.0 items) ≡ Some x.1) ×
 found_later : (first : Numbered) (items xs : List Numbered) → AllIds (λ n. first.0 < n) xs → AllFound items xs → AllFound (first ∷ items) xs
 found_later first items [] over found = tt
 found_later first items (x ∷ xs) over found =
-    (go (nat_lt x.0 first.0) refl (eqb x.0 first.0) refl, found_later first items xs over.1 found.1)
+    (go (nat_lt x.0 first.0) refl (eqb x.0 first.0) refl, found_later first items xs (ids_tail (λ n. first.0 < n) x xs over) found.1)
   where
     go : (past : Bool) → nat_lt x.0 first.0 ≡ past → (same : Bool) → eqb x.0 first.0 ≡ same
         → event_at x.0 (not_above x.0 (first ∷ items)) ≡ Some x.1
-    go true past_is same same_is = let past = ltb-true x.0 first.0 past_is in let low = over.0 in absurd (omega arith)
-    go false past_is true same_is = let same = eqb-true x.0 first.0 same_is in let low = over.0 in absurd (omega arith)
+    go true past_is same same_is = let past = ltb-true x.0 first.0 past_is in let low = ids_head (λ n. first.0 < n) x xs over in absurd (omega arith)
+    go false past_is true same_is = let same = eqb-true x.0 first.0 same_is in let low = ids_head (λ n. first.0 < n) x xs over in absurd (omega arith)
     go false past_is false same_is = rw (past_is, same_is) found.0
 
--- items whose ids rise
-all_found : (xs : List Numbered) → Rises xs → AllFound xs xs
-all_found [] rises = tt
-all_found (x ∷ xs) rises =
-    (rw (le-ltb x.0 x.0 (omega arith), eq-eqb x.0 x.0 refl) refl, found_later x xs xs rises.0 (all_found xs rises.1))
+-- sorted items
+all_found : (xs : List Numbered) → SortedByKey nat_cmp xs → AllFound xs xs
+all_found [] sorted = tt
+all_found (x ∷ xs) sorted =
+    (rw (le-ltb x.0 x.0 (omega arith), eq-eqb x.0 x.0 refl) refl, found_later x xs xs (sorted_head x xs sorted) (all_found xs (sorted_tail x xs sorted)))
 
 found-filter : (test : Numbered → Bool) (items xs : List Numbered) → AllFound items xs → AllFound items (filter test xs)
 found-filter test items [] found = tt
@@ -101,10 +103,10 @@ module _ (feeding : Feeding) (reading : Reading) (queue : QueueId) where
       before = trace;
       split = refl;
       held = held;
-      given = subst (λ n. n ≤ (account_of feeding queue trace).given) (sym (count_of-id_of x.0)) given.0;
+      given = subst (λ n. n ≤ (account_of feeding queue trace).given) (sym (count_of-id_of x.0)) (ids_head (λ n. n ≤ (account_of feeding queue trace).given) x xs given);
       under = subst (λ n. event_at n (not_above n (items_of (account_of feeding queue trace))) ≡ Some x.1) (sym (count_of-id_of x.0)) found.0;
     },
-    numbered_shown trace xs held given.1 found.1,
+    numbered_shown trace xs held (ids_tail (λ n. n ≤ (account_of feeding queue trace).given) x xs given) found.1,
   )
 
   -- the items of an answer
@@ -120,7 +122,7 @@ module _ (feeding : Feeding) (reading : Reading) (queue : QueueId) where
       let tells = answered_tells queue.user a (position_of before) user after beat list reached legal.0 in
       let in_a = inside feeding reading queue before legal.1 in
       let now_is : c ≡ after_answer (count_of after) beat moment a = ap (λ (same : Bool). cond same (after_answer (count_of after) beat moment a) a) (same_queue_itself queue) in
-      let sorted : Rises (items_of b) = all_rise b (inside_with_events new a in_a) (more_rise new a in_a (rise feeding reading queue before legal.1)) in
+      let sorted : SortedByKey nat_cmp (items_of b) = all_rise b (inside_with_events new a in_a) (more_rise new a in_a (rise feeding reading queue before legal.1)) in
       let items_are : items_of c ≡ items_of b = ap items_of now_is ∙ append-nil (items_of b) in
       let held : is_held c ≡ true = ap is_held now_is ∙ live_is_held a.phase tells.polling.was_live in
       let out = items_to_give (count_of after) beat a in
