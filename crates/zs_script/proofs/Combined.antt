@@ -1,5 +1,5 @@
--- Words that spell one to four values: how many they are, and that they spell one whole.
-use Rattle.std.proofs.Common.{◌≡◌, ℕ, List, [], ◌∷◌, length, refl, sym, ap, ◌∙◌}
+-- Words that spell one to four values: how many they are, that they spell one whole, and what holds of it.
+use Rattle.std.proofs.Common.{◌≡◌, ℕ, List, [], ◌∷◌, length, refl, sym, ap, ◌∙◌, subst}
 use Rattle.zs_words.proofs.Meanings.{SpellsOne}
 use Rattle.zs_script.specs.Grammar.{One, Two, Three, Four}
 
@@ -68,3 +68,22 @@ four_whole first second third fourth make same1 same2 same3 same4 (a ∷ b ∷ c
     let u = same4 d is_v.3 is_w.3 is_v.7 is_w.7 in
     is_v.8 ∙ ((λ i. make (x i) (y i) (z i) (u i)) ∙ sym is_w.8)
 four_whole first second third fourth make same1 same2 same3 same4 (a ∷ b ∷ c ∷ d ∷ e ∷ rest) v w is_v is_w = absurd is_v
+
+-- what holds of whatever these words can make holds of the whole
+pub one_made : {A W : Type 0} (first : List ℕ → A → Type 0) (make : A → W) (P : W → Type 0) → ((word : List ℕ) (x : A) → first word x → P (make x)) → (words : List (List ℕ)) (whole : W) → One first make words whole → P whole
+one_made first make P each [] whole is = absurd is
+one_made first make P each (a ∷ []) whole is = subst P (sym is.2) (each a is.0 is.1)
+one_made first make P each (a ∷ b ∷ rest) whole is = absurd is
+
+pub two_made : {A B W : Type 0} (first : List ℕ → A → Type 0) (second : List ℕ → B → Type 0) (make : A → B → W) (P : W → Type 0) → ((word other : List ℕ) (x : A) (y : B) → first word x → second other y → P (make x y)) → (words : List (List ℕ)) (whole : W) → Two first second make words whole → P whole
+two_made first second make P each [] whole is = absurd is
+two_made first second make P each (a ∷ []) whole is = absurd is
+two_made first second make P each (a ∷ b ∷ []) whole is = subst P (sym is.4) (each a b is.0 is.1 is.2 is.3)
+two_made first second make P each (a ∷ b ∷ c ∷ rest) whole is = absurd is
+
+pub three_made : {A B C W : Type 0} (first : List ℕ → A → Type 0) (second : List ℕ → B → Type 0) (third : List ℕ → C → Type 0) (make : A → B → C → W) (P : W → Type 0) → ((x : A) (y : B) (z : C) → P (make x y z)) → (words : List (List ℕ)) (whole : W) → Three first second third make words whole → P whole
+three_made first second third make P each [] whole is = absurd is
+three_made first second third make P each (a ∷ []) whole is = absurd is
+three_made first second third make P each (a ∷ b ∷ []) whole is = absurd is
+three_made first second third make P each (a ∷ b ∷ c ∷ []) whole is = subst P (sym is.6) (each is.0 is.1 is.2)
+three_made first second third make P each (a ∷ b ∷ c ∷ d ∷ rest) whole is = absurd is

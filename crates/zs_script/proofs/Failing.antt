@@ -7,13 +7,12 @@ use Rattle.zr_types.specs.declared.command.StreamCommand.TheVariants.{SubPropert
 use Rattle.zr_types.specs.declared.command.SubField.TheVariants as value
 use Rattle.ev_base.specs.declared.ids.UserId.{UserId}
 use Rattle.zs_words.specs.declared.names.CommandName.{CommandName}
-use Rattle.zs_words.specs.declared.names.LineName.TheVariants as line
 use Rattle.zs_script.specs.declared.step.Step.TheVariants.{Command}
 use Rattle.zs_words.specs.declared.names.SubProperty.{SubProperty as SubName}
 use Rattle.zs_words.specs.declared.names.SubProperty.TheVariants as sub
 use Rattle.zs_words.specs.declared.fault.LineFault.{LineFault}
 use Rattle.zs_words.specs.declared.fault.LineFault.TheVariants.{NotAStep, NoMemory}
-use Rattle.zs_script.specs.Grammar.{Two, Three, Four, ValueSpells, SubPropertySpells, ArgumentsSpell, RestSpells}
+use Rattle.zs_script.specs.Grammar.{Two, Three, Four, ValueSpells, SubPropertySpells, ArgumentsSpell, CommandSpells}
 use Rattle.zs_words.specs.Names.{IsSubProperty}
 use Rattle.zs_words.specs.Numbers.{IsUser, IsStream}
 use Rattle.zs_words.specs.Texts.{IsText}
@@ -162,7 +161,7 @@ no_value (a ∷ b ∷ c ∷ []) fault stream property least below is_stream is_p
 no_value (a ∷ b ∷ c ∷ d ∷ rest) fault stream property least below is_stream is_property reads = absurd (omega arith)
 
 -- a command behind its actor that isn't read
-pub no_command : (name : CommandName) (words rest : List (Bor (List ℕ))) (fault : LineFault) (actor : UserId) → 1 ≤ length words → rest ≡ take (length words - 1) (drop 1 words) → IsUser (word words 0) actor → Reads (ArgumentsSpell name (pointed rest)) (Err fault) → ReadsStep (RestSpells 0 (line.Command name) (pointed words)) (Err fault)
+pub no_command : (name : CommandName) (words rest : List (Bor (List ℕ))) (fault : LineFault) (actor : UserId) → 1 ≤ length words → rest ≡ take (length words - 1) (drop 1 words) → IsUser (word words 0) actor → Reads (ArgumentsSpell name (pointed rest)) (Err fault) → ReadsStep (CommandSpells name (pointed words)) (Err fault)
 no_command name [] rest fault actor least is is_actor reads = absurd (omega arith)
 no_command name (a ∷ behind) rest fault actor least is is_actor reads =
     let same : rest ≡ behind = is ∙ take_all _ behind (omega arith) in

@@ -1,5 +1,6 @@
 pub mod Combined
 pub mod Failing
 pub mod Meanings
-pub mod PushedShards
+pub mod Playable
 pub mod StepAnswers
+pub mod StepLists

@@ -1,5 +1,5 @@
 -- The same words spell one step at most, and a line that is passed over spells none.
-use Rattle.std.proofs.Common.{◌≡◌, ℕ, ◌≤◌, ◌<◌, ◌==◌, List, [], ◌∷◌, length, None, Some, Err, sym, refl, ap, ◌∙◌, subst, arith}
+use Rattle.std.proofs.Common.{◌≡◌, ℕ, ◌≤◌, ◌<◌, Bool, true, false, ◌==◌, List, [], ◌∷◌, length, None, Some, Err, sym, refl, ap, ◌∙◌, subst, arith}
 use Rattle.std.specs.List.{slice_split, onto_first}
 use Rattle.ev_types.specs.declared.kind.Types.{Types}
 use Rattle.zr_types.specs.declared.command.Command.{Command as Change}
@@ -15,13 +15,14 @@ use Rattle.zs_words.specs.declared.names.SubProperty.{SubProperty as SubName}
 use Rattle.zs_words.specs.declared.names.SubProperty.TheVariants as sub
 use Rattle.zs_words.specs.Lists.{IsUsers, IsMessages, IsFetch}
 use Rattle.zs_words.specs.Names.{IsNameField, IsPrivacy, IsMode, IsOperation, IsFlag}
-use Rattle.zs_words.specs.Numbers.{IsUser, IsStream, IsMessage, IsShard, IsRole, IsQueue, IsEventNumber}
+use Rattle.zs_words.specs.Numbers.{IsUser, IsStream, IsMessage, IsShard, IsShardCount, IsNoticeNumber, IsMoment, IsRole, IsQueue, IsEventNumber}
 use Rattle.zs_words.specs.StreamRefs.{IsStreamRef}
 use Rattle.zs_words.specs.Texts.{IsText}
-use Rattle.zs_words.proofs.Meanings.{one_user, one_stream, one_message, one_shard, one_role, one_queue, one_event_number, one_sub_name, one_field, one_privacy, one_mode, one_operation, one_flag, one_truth, one_text, one_stream_ref, one_users, one_messages, one_types, one_fetch, SpellsOne}
+use Rattle.zs_words.proofs.Meanings.{one_user, one_stream, one_message, one_shard, one_shard_count, one_notice_number, one_moment, one_role, one_queue, one_event_number, one_sub_name, one_field, one_privacy, one_mode, one_operation, one_flag, one_truth, one_text, one_stream_ref, one_users, one_messages, one_types, one_fetch, SpellsOne}
+use Rattle.zs_script.specs.declared.step.Setting.{Setting}
 use Rattle.zs_script.specs.declared.step.Step.{Step}
 use Rattle.zs_script.specs.declared.step.Step.TheVariants.{Command, Register}
-use Rattle.zs_script.specs.Grammar.{IsPassedOver, words_of, ValueSpells, SubPropertySpells, ArgumentsSpell, CommandSpells, RegisterSpells, RestSpells, WordsSpell, Spells}
+use Rattle.zs_script.specs.Grammar.{IsPassedOver, words_of, ValueSpells, SubPropertySpells, ArgumentsSpell, CommandSpells, RegisterSpells, PushSpells, PollSpells, RestSpells, WordsSpell, Spells}
 use Rattle.zs_script.specs.Readings.{ReadsWords}
 use Rattle.zs_script.proofs.Combined.{one_word, two_words, three_words, four_words, one_whole, two_whole, three_whole, four_whole}
 
@@ -84,25 +85,38 @@ one_register (u ∷ v ∷ w ∷ []) a b is_a is_b =
     is_a.6 ∙ ((λ i. Register (user i) (meant i) (asked i)) ∙ sym is_b.6)
 one_register (u ∷ v ∷ w ∷ x ∷ rest) a b is_a is_b = absurd is_a
 
-one_rest : (shards : ℕ) (name : LineName) (words : List (List ℕ)) (a b : Step) → RestSpells shards name words a → RestSpells shards name words b → a ≡ b
-one_rest shards (line.Command name) words a b is_a is_b = one_command name words a b is_a is_b
-one_rest shards line.Notice words a b is_a is_b = is_a.1 ∙ sym is_b.1
-one_rest shards line.Push words a b is_a is_b = one_whole (IsShard shards) _ (one_shard shards) words a b is_a is_b
-one_rest shards line.Register words a b is_a is_b = one_register words a b is_a is_b
-one_rest shards line.Poll words a b is_a is_b = three_whole IsUser IsQueue IsEventNumber _ one_user one_queue one_event_number words a b is_a is_b
-one_rest shards line.View words a b is_a is_b = one_whole IsUser _ one_user words a b is_a is_b
+one_push : (setting : Setting) (words : List (List ℕ)) (a b : Step) → PushSpells setting words a → PushSpells setting words b → a ≡ b
+one_push setting [] a b is_a is_b = absurd is_a
+one_push setting (u ∷ []) a b is_a is_b = one_whole (IsShard setting.shards) _ (one_shard setting.shards) (u ∷ []) a b is_a is_b
+one_push setting (u ∷ v ∷ rest) a b is_a is_b = two_whole (IsShard setting.shards) IsNoticeNumber _ (one_shard setting.shards) one_notice_number (u ∷ v ∷ rest) a b is_a is_b
 
-one_words : (shards : ℕ) (words : List (List ℕ)) (a b : Step) → WordsSpell shards words a → WordsSpell shards words b → a ≡ b
-one_words shards [] a b is_a is_b = absurd is_a
-one_words shards (first ∷ rest) a b is_a is_b =
+one_poll : (beat : Bool) (words : List (List ℕ)) (a b : Step) → PollSpells beat words a → PollSpells beat words b → a ≡ b
+one_poll beat = three_whole IsUser IsQueue IsEventNumber _ one_user one_queue one_event_number
+
+one_rest : (setting : Setting) (name : LineName) (words : List (List ℕ)) (a b : Step) → RestSpells setting name words a → RestSpells setting name words b → a ≡ b
+one_rest setting (line.Command name) words a b is_a is_b = one_command name words a b is_a is_b
+one_rest setting line.Shards words a b is_a is_b = one_whole IsShardCount _ one_shard_count words a b is_a.1 is_b.1
+one_rest setting line.Notice words a b is_a is_b = is_a.1 ∙ sym is_b.1
+one_rest setting line.Push words a b is_a is_b = one_push setting words a b is_a is_b
+one_rest setting line.Register words a b is_a is_b = one_register words a b is_a is_b
+one_rest setting line.Poll words a b is_a is_b = one_poll false words a b is_a is_b
+one_rest setting line.Beat words a b is_a is_b = one_poll true words a b is_a is_b
+one_rest setting line.DeleteQueue words a b is_a is_b = two_whole IsUser IsQueue _ one_user one_queue words a b is_a is_b
+one_rest setting line.Tick words a b is_a is_b = one_whole IsMoment _ one_moment words a b is_a is_b
+one_rest setting line.Where words a b is_a is_b = one_whole (IsShard setting.shards) _ (one_shard setting.shards) words a b is_a is_b
+one_rest setting line.View words a b is_a is_b = one_whole IsUser _ one_user words a b is_a is_b
+
+one_words : (setting : Setting) (words : List (List ℕ)) (a b : Step) → WordsSpell setting words a → WordsSpell setting words b → a ≡ b
+one_words setting [] a b is_a is_b = absurd is_a
+one_words setting (first ∷ rest) a b is_a is_b =
     let same : Some is_a.0 ≡ Some is_b.0 = sym is_a.1 ∙ is_b.1 in
     let name : is_a.0 ≡ is_b.0 = cc in
-    let P : LineName → Type 0 = λ n. RestSpells shards n rest b in
-    one_rest shards is_a.0 rest a b is_a.2 (subst P (sym name) is_b.2)
+    let P : LineName → Type 0 = λ n. RestSpells setting n rest b in
+    one_rest setting is_a.0 rest a b is_a.2 (subst P (sym name) is_b.2)
 
 -- a line spells one step at most
-pub one_step : (shards : ℕ) (line : List ℕ) (a b : Step) → Spells shards line a → Spells shards line b → a ≡ b
-one_step shards line a b is_a is_b = one_words shards (words_of line) a b is_a is_b
+pub one_step : (setting : Setting) (line : List ℕ) (a b : Step) → Spells setting line a → Spells setting line b → a ≡ b
+one_step setting line a b is_a is_b = one_words setting (words_of line) a b is_a is_b
 
 sub_property_words : (words : List (List ℕ)) (change : Change) → SubPropertySpells words change → length words ≡ 3
 sub_property_words [] change is = absurd is
@@ -141,34 +155,44 @@ change_words command.Flags words change is = omega (arith, three_words IsOperati
 change_words command.ReactionAdd words change is = omega (arith, two_words IsMessage IsText _ words change is)
 change_words command.ReactionRemove words change is = omega (arith, two_words IsMessage IsText _ words change is)
 
-rest_words : (shards : ℕ) (name : LineName) (words : List (List ℕ)) (step : Step) → RestSpells shards name words step → length words ≤ 5
-rest_words shards (line.Command name) [] step is = absurd is
-rest_words shards (line.Command name) (first ∷ arguments) step is = omega (arith, change_words name arguments is.1 is.3)
-rest_words shards line.Notice words step is = omega (arith, ap length is.0)
-rest_words shards line.Push words step is = omega (arith, one_word (IsShard shards) _ words step is)
-rest_words shards line.Register words step is = omega (arith, register_words words step is)
-rest_words shards line.Poll words step is = omega (arith, three_words IsUser IsQueue IsEventNumber _ words step is)
-rest_words shards line.View words step is = omega (arith, one_word IsUser _ words step is)
+push_words : (setting : Setting) (words : List (List ℕ)) (step : Step) → PushSpells setting words step → length words ≤ 2
+push_words setting [] step is = absurd is
+push_words setting (u ∷ []) step is = omega arith
+push_words setting (u ∷ v ∷ rest) step is = omega (arith, two_words (IsShard setting.shards) IsNoticeNumber _ (u ∷ v ∷ rest) step is)
 
-line_words : (shards : ℕ) (words : List (List ℕ)) (step : Step) → WordsSpell shards words step → length words ≤ 6
-line_words shards [] step is = absurd is
-line_words shards (first ∷ rest) step is = omega (arith, rest_words shards is.0 rest step is.2)
+rest_words : (setting : Setting) (name : LineName) (words : List (List ℕ)) (step : Step) → RestSpells setting name words step → length words ≤ 5
+rest_words setting (line.Command name) [] step is = absurd is
+rest_words setting (line.Command name) (first ∷ arguments) step is = omega (arith, change_words name arguments is.1 is.3)
+rest_words setting line.Shards words step is = omega (arith, one_word IsShardCount _ words step is.1)
+rest_words setting line.Notice words step is = omega (arith, ap length is.0)
+rest_words setting line.Push words step is = omega (arith, push_words setting words step is)
+rest_words setting line.Register words step is = omega (arith, register_words words step is)
+rest_words setting line.Poll words step is = omega (arith, three_words IsUser IsQueue IsEventNumber _ words step is)
+rest_words setting line.Beat words step is = omega (arith, three_words IsUser IsQueue IsEventNumber _ words step is)
+rest_words setting line.DeleteQueue words step is = omega (arith, two_words IsUser IsQueue _ words step is)
+rest_words setting line.Tick words step is = omega (arith, one_word IsMoment _ words step is)
+rest_words setting line.Where words step is = omega (arith, one_word (IsShard setting.shards) _ words step is)
+rest_words setting line.View words step is = omega (arith, one_word IsUser _ words step is)
+
+line_words : (setting : Setting) (words : List (List ℕ)) (step : Step) → WordsSpell setting words step → length words ≤ 6
+line_words setting [] step is = absurd is
+line_words setting (first ∷ rest) step is = omega (arith, rest_words setting is.0 rest step is.2)
 
 -- more words than any line has spell no step
-pub too_many : (shards : ℕ) (words : List (List ℕ)) → 6 < length words → ReadsWords shards words (Err NotAStep)
-too_many shards words many = record {
+pub too_many : (setting : Setting) (words : List (List ℕ)) → 6 < length words → ReadsWords setting words (Err NotAStep)
+too_many setting words many = record {
   step = tt;
-  not_a_step = λ _ step is. absurd (omega (arith, line_words shards words step is));
+  not_a_step = λ _ step is. absurd (omega (arith, line_words setting words step is));
   no_memory = λ other. cc;
 }
 
-hash_word : (shards : ℕ) (parts : List (List ℕ)) (step : Step) → WordsSpell shards (onto_first 35 parts) step → ⊥
-hash_word shards [] step is = let none : None ≡ Some is.0 = is.1 in absurd (cc)
-hash_word shards (part ∷ parts) step is = let none : None ≡ Some is.0 = is.1 in absurd (cc)
+hash_word : (setting : Setting) (parts : List (List ℕ)) (step : Step) → WordsSpell setting (onto_first 35 parts) step → ⊥
+hash_word setting [] step is = let none : None ≡ Some is.0 = is.1 in absurd (cc)
+hash_word setting (part ∷ parts) step is = let none : None ≡ Some is.0 = is.1 in absurd (cc)
 
 -- a line that is passed over spells no step
-pub passed_over : (shards : ℕ) (line : List ℕ) (step : Step) → IsPassedOver line → Spells shards line step → ⊥
-passed_over shards [] step passed is = let none : None ≡ Some is.0 = is.1 in absurd (cc)
-passed_over shards (first ∷ rest) step passed is =
-    let P : ℕ → Type 0 = λ byte. Spells shards (byte ∷ rest) step in
-    hash_word shards (slice_split (λ byte. byte == 32) rest) step (subst P passed is)
+pub passed_over : (setting : Setting) (line : List ℕ) (step : Step) → IsPassedOver line → Spells setting line step → ⊥
+passed_over setting [] step passed is = let none : None ≡ Some is.0 = is.1 in absurd (cc)
+passed_over setting (first ∷ rest) step passed is =
+    let P : ℕ → Type 0 = λ byte. Spells setting (byte ∷ rest) step in
+    hash_word setting (slice_split (λ byte. byte == 32) rest) step (subst P passed is)

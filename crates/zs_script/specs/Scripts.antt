@@ -1,8 +1,9 @@
 -- The steps of a script, and what those before a line leave to it.
-use Rattle.std.specs.Prelude.{◌≡◌, ℕ, Bool, true, false, max, List, [], ◌∷◌, ◌⊎◌}
+use Rattle.std.specs.Prelude.{◌≡◌, ℕ, ◌<◌, ◌≤◌, Bool, true, false, max, List, [], ◌∷◌, ◌⊎◌}
 use Rattle.zs_script.specs.declared.step.Setting.{Setting}
 use Rattle.zs_script.specs.declared.step.Step.{Step}
-use Rattle.zs_script.specs.declared.step.Step.TheVariants.{Shards, Tick}
+use Rattle.zs_script.specs.declared.step.Step.TheVariants.{Shards, Push, PushFrom, Locate, Tick}
+use Rattle.zs_words.specs.Numbers.{max_shards}
 use Rattle.zs_script.specs.Grammar.{IsPassedOver, Spells}
 
 -- how many shards there are after some steps, the latest first: one, unless the first step says otherwise
@@ -38,3 +39,12 @@ AreSpelled (line ∷ lines) [] = IsPassedOver line × AreSpelled lines []
 AreSpelled (line ∷ lines) (step ∷ before) =
     (IsPassedOver line × AreSpelled lines (step ∷ before))
     ⊎ (Spells (setting_of before) line step × AreSpelled lines before)
+
+-- where there are these many shards, the step names one that is there, and makes no other number of them than there may be;
+-- notices count from 1
+abbrev pub MayPlay : ℕ → Step → Type 0
+MayPlay shards (Shards count) = (1 ≤ count) × (count ≤ max_shards)
+MayPlay shards (Push shard) = shard < shards
+MayPlay shards (PushFrom shard first) = (shard < shards) × (1 ≤ first)
+MayPlay shards (Locate shard) = shard < shards
+MayPlay shards step = Unit {0}

@@ -4,13 +4,15 @@
 mod marks;
 mod people;
 mod posts;
+mod queues;
 mod reading;
 mod step;
 mod streams;
 mod words;
 
 pub use reading::{
-    one_step_at_most, passed_over_lines_spell_none, pushed_shards_are_there, read_line,
+    one_list_of_steps, one_step_at_most, passed_over_lines_spell_none, read_line,
+    steps_may_be_played,
 };
-pub use step::Step;
+pub use step::{Setting, Step};
 pub use zs_words::LineFault;

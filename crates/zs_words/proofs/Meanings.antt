@@ -13,7 +13,7 @@ use Rattle.ev_types.specs.Feeders.{kind_name}
 use Rattle.zr_types.specs.declared.command.StreamRef.TheVariants as ref
 use Rattle.zs_words.specs.Lists.{parts_of, IsIds, IsMessages, IsUsers, IsTypes, IsFetch, is_fetch_name}
 use Rattle.zs_words.specs.Names.{kinds, IsSubProperty, IsNameField, IsPrivacy, IsMode, IsOperation, IsFlag, IsTruth}
-use Rattle.zs_words.specs.Numbers.{is_digit, IsNumber, IsInteger, IsId, IsUser, IsStream, IsMessage, IsShard, IsRole, IsQueue, IsEventNumber}
+use Rattle.zs_words.specs.Numbers.{is_digit, IsNumber, IsInteger, IsId, IsUser, IsStream, IsMessage, IsShard, IsShardCount, IsNoticeNumber, IsMoment, IsRole, IsQueue, IsEventNumber}
 use Rattle.zs_words.specs.StreamRefs.{IsStreamRef}
 use Rattle.zs_words.specs.Texts.{IsText, decoded}
 use Rattle.zs_words.proofs.TextLemmas.{decoded_none}
@@ -57,6 +57,15 @@ one_message word a b is_a is_b =
 
 pub one_shard : (shards : ℕ) → SpellsOne (IsShard shards)
 one_shard shards word a b is_a is_b = one_id word a b is_a.0 is_b.0
+
+pub one_shard_count : SpellsOne IsShardCount
+one_shard_count word a b is_a is_b = one_number word a b is_a.0 is_b.0
+
+pub one_notice_number : SpellsOne IsNoticeNumber
+one_notice_number word a b is_a is_b = one_number word a b is_a.0 is_b.0
+
+pub one_moment : SpellsOne IsMoment
+one_moment word a b is_a is_b = one_number word a b is_a.0 is_b.0
 
 role_back : (role : Role) → role_of (role_number role) ≡ Some role
 role_back Owner = refl

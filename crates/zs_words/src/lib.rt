@@ -12,7 +12,8 @@ pub use fault::LineFault;
 pub use lists::{fetch_of, is_fetch, is_ids, is_types, read_messages, types_of, users_of};
 pub use names::{CommandName, LineName, Named, Operation, SubProperty, read_name};
 pub use numbers::{
-    read_event_number, read_message, read_queue, read_role, read_shard, read_stream, read_user,
+    read_event_number, read_message, read_moment, read_notice_number, read_queue, read_role,
+    read_shard, read_shard_count, read_stream, read_user,
 };
 pub use stream_refs::{is_stream_ref, stream_ref_of};
 pub use texts::{is_text, read_text, text_of};

@@ -1,11 +1,14 @@
 //! The numbers that words write.
 
 ghost use Rattle.std.specs.Prelude.{◌≡◌, ◌<◌, ◌^◌, ℕ, ℤ, FitsSigned, MatchOption};
-ghost use Rattle.zs_words.specs.Numbers.{IsEventNumber, IsId, IsMessage, IsNumber, IsQueue, IsRole, IsShard, IsStream, IsUser};
+ghost use Rattle.zs_words.specs.Numbers.{IsEventNumber, IsId, IsMessage, IsMoment, IsNoticeNumber, IsNumber, IsQueue, IsRole, IsShard, IsShardCount, IsStream, IsUser};
 ghost use Rattle.zs_words.specs.Readings.{ReadsIf};
 
 use ev_base::{MessageId, QueueId, Role, StreamId, UserId};
 use std::str;
+
+/// How many shards there may be.
+const MAX_SHARDS: u32 = 16;
 
 pub fn read_user(word: &[u8]) -> Option<UserId>
     ensures { ReadsIf (IsUser word.now) result }
@@ -31,6 +34,33 @@ pub fn read_shard(shards: u32, word: &[u8]) -> Option<u32>
 {
     let shard = read_id(word)?;
     if shard < shards { Some(shard) } else { None }
+}
+
+/// A number of shards, from 1 to 16.
+pub fn read_shard_count(word: &[u8]) -> Option<u32>
+    ensures { ReadsIf (IsShardCount word.now) result }
+{
+    let count = read_id(word)?;
+    if 1 <= count && count <= MAX_SHARDS {
+        Some(count)
+    } else {
+        None
+    }
+}
+
+/// The number of a notice. Notices count from 1.
+pub fn read_notice_number(word: &[u8]) -> Option<u64>
+    ensures { ReadsIf (IsNoticeNumber word.now) result }
+{
+    let number = read_number(word)?;
+    if 1 <= number { Some(number) } else { None }
+}
+
+/// A moment, in seconds.
+pub fn read_moment(word: &[u8]) -> Option<u64>
+    ensures { ReadsIf (IsMoment word.now) result }
+{
+    read_number(word)
 }
 
 pub fn read_role(word: &[u8]) -> Option<Role>

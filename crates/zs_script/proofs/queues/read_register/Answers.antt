@@ -3,7 +3,7 @@ use Rattle.std.proofs.lemmas.Bool.{false≢true}
 use Rattle.ev_types.specs.declared.kind.Types.TheVariants as types
 use Rattle.zs_words.specs.declared.fault.LineFault.TheVariants.{NoMemory}
 use Rattle.zs_script.proofs.StepAnswers.{no_register, register_made, register_out_of_memory}
-use Rattle.zs_script.proofs.words.read_register.Goals as goal
+use Rattle.zs_script.proofs.queues.read_register.Goals as goal
 
 pub returns-in_default-read_user : goal.returns-in_default-read_user
 returns-in_default-read_user c =
