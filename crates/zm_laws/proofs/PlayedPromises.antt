@@ -9,7 +9,7 @@ use Rattle.zs_script.specs.declared.step.Step.TheVariants.{Register, View}
 use Rattle.zs_script.specs.Scripts.{moment_of, shards_of}
 use Rattle.zm_text.specs.declared.outcome.Outcome.TheVariants.{Finished, Viewed}
 use Rattle.zm_text.specs.Clients.{client_of, items_told, registration_of}
-use Rattle.zm_text.specs.Promises.{ClientsAreFresh, IdsAreSteady, Promises, ReadersAreActive, RegistersAreFresh, RegistersAreRecent, ViewsAreFresh, accepted, accepted_by}
+use Rattle.zm_text.specs.Promises.{ClientsAreFresh, IdsAreSteady, ReadersAreActive, RegistersAreFresh, RegistersAreRecent, ViewsAreFresh, accepted, accepted_by}
 use Rattle.zm_text.specs.Playing.{Turn, steps_in}
 use Rattle.zm_laws.proofs.ToldItems.{AllShown, one_event, shown_at}
 use Rattle.zm_laws.proofs.PlayedHistories.{Following, Known, WasThere, belongs_at, following_at_first}
