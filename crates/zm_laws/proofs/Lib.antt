@@ -2,6 +2,7 @@ pub mod TraceLists
 pub mod ToldItems
 pub mod QueueTurns
 pub mod PlayedHistories
+pub mod Courses
 pub mod TurnPromises
 pub mod PlayedTurns
 pub mod PlayedPromises

@@ -3,6 +3,8 @@ use Rattle.std.proofs.Common.{◌≡◌, ℕ, zero, suc, ◌+◌, ◌<◌, ◌�
 use Rattle.std.proofs.lemmas.List.{length-replicate}
 use Rattle.ev_base.specs.declared.ids.UserId.{UserId}
 use Rattle.ev_base.specs.declared.ids.QueueId.{QueueId}
+use Rattle.ev_base.specs.declared.expired.Expired.{Expired}
+use Rattle.ev_types.specs.declared.notice.Notice.{Notice}
 use Rattle.ev_types.specs.declared.event.Item.{Item}
 use Rattle.ev_types.specs.declared.section.Section.{Section}
 use Rattle.zw_traces.specs.declared.realm.RealmInput.{RealmInput}
@@ -13,9 +15,9 @@ use Rattle.zw_traces.specs.declared.realm.RealmReply.TheVariants as realm_reply
 use Rattle.zw_traces.specs.declared.realm.RealmStep.{RealmStep}
 use Rattle.zw_traces.specs.declared.shard.FetchedSection.{FetchedSection}
 use Rattle.zw_traces.specs.declared.shard.ShardInput.{ShardInput}
-use Rattle.zw_traces.specs.declared.shard.ShardInput.TheVariants.{Push}
+use Rattle.zw_traces.specs.declared.shard.ShardInput.TheVariants.{Push, Tick}
 use Rattle.zw_traces.specs.declared.shard.ShardReply.{ShardReply}
-use Rattle.zw_traces.specs.declared.shard.ShardReply.TheVariants.{Pushed}
+use Rattle.zw_traces.specs.declared.shard.ShardReply.TheVariants.{Gap, Pushed, Ticked}
 use Rattle.zw_traces.specs.declared.shard.ShardStep.{ShardStep}
 use Rattle.zw_traces.specs.RealmTrace.{Accepted, IsLegalRealm, announced_count, commands, commands_after}
 use Rattle.zw_traces.specs.RealmFeeds.{changed_events, viewed}
@@ -27,7 +29,7 @@ use Rattle.zw_traces.proofs.Steps.{pushed_tells}
 use Rattle.zw_laws.proofs.Belonging.{earlier_belongs}
 use Rattle.zw_laws.proofs.FedSteps.{length-with_step_at}
 use Rattle.zm_text.specs.Clients.{Registration}
-use Rattle.zm_text.specs.Playing.{CatchesUp, Round, TakesAndPushes, with_fetch, with_fetches}
+use Rattle.zm_text.specs.Playing.{CatchesUp, Round, TakesAndPushes, with_fetch, with_fetches, with_ticks}
 use Rattle.zm_laws.proofs.TraceLists.{IsAt, trace_at-same, trace_at-other, trace_at-replicate}
 use Rattle.zm_laws.proofs.QueueTurns.{IsFollowed, followed_at_first, followed_step, items_after}
 
@@ -250,33 +252,54 @@ module _ (final : List RealmStep) (count : ℕ) where
       keeps = λ known following. following_shard i input reply history known known (quiet_tells i input reply known quiet) bounded there following;
     }
 
-    -- notices that are taken and pushed
-    pub quiet_pushes : (index need have : ℕ) (rounds : List Round) (before : History) (reached : ℕ) (after : History)
-        → TakesAndPushes index need have rounds before reached after → WasThere after → Quiet before after
-    quiet_pushes index need have [] before reached after pushes there =
-        subst (Quiet before) (sym pushes.2) (quiet_none before (subst WasThere pushes.2 there))
-    quiet_pushes index need have (round ∷ rounds) before reached after pushes there =
-        let taken = with_realm_step (Take (have + 1)) (Notices (have + 1) round.notices) before in
-        let pushed = with_shard_step index (Push (have + 1) round.notices) (Pushed round.position) taken in
-        let rest = quiet_pushes index need round.position rounds pushed reached after pushes.1 there in
-        let there_taken = there_before_shard index (Push (have + 1) round.notices) (Pushed round.position) taken rest.there in
-        let counted = there_taken.legal.0.2 in
-        let bounded : IsBounded index (Push (have + 1) round.notices) (Pushed round.position) taken =
+    -- where steps end where others are known to
+    pub quiet_to : (before after target : History) → after ≡ target → (WasThere target → Quiet before target) → WasThere after → Quiet before after
+    quiet_to before after target is quiet there = subst (Quiet before) (sym is) (quiet (subst WasThere is there))
+
+    -- notices that are taken from one on and pushed, with this reply
+    abbrev with_taken : ℕ → ℕ → List Notice → ShardReply → History → History
+    with_taken index first notices reply before = with_shard_step index (Push first notices) reply (with_realm_step (Take first) (Notices first notices) before)
+
+    quiet_taking : (index first : ℕ) (notices : List Notice) (reply : ShardReply) (before : History) → IsQuiet (Push first notices) reply
+        → IsBounded index (Push first notices) reply (with_realm_step (Take first) (Notices first notices) before)
+        → WasThere (with_taken index first notices reply before) → Quiet before (with_taken index first notices reply before)
+    quiet_taking index first notices reply before quiet bounded there =
+        let taken = with_realm_step (Take first) (Notices first notices) before in
+        let push = quiet_shard index (Push first notices) reply taken quiet bounded there in
+        quiet_then before taken (with_taken index first notices reply before) (quiet_realm (Take first) (Notices first notices) before refl push.there) push
+
+    pub quiet_taken : (index first : ℕ) (notices : List Notice) (reached : ℕ) (before : History)
+        → WasThere (with_taken index first notices (Pushed reached) before) → Quiet before (with_taken index first notices (Pushed reached) before)
+    quiet_taken index first notices reached before there =
+        let taken = with_realm_step (Take first) (Notices first notices) before in
+        let counted = (there_before_shard index (Push first notices) (Pushed reached) taken there).legal.0.2 in
+        let bounded : IsBounded index (Push first notices) (Pushed reached) taken =
         λ answers within.
-        let tells = pushed_tells (shard_account (changed_events (commands final)) (trace_at index before.shards)) (viewed (commands final)) (have + 1) round.notices round.position answers in
+        let tells = pushed_tells (shard_account (changed_events (commands final)) (trace_at index before.shards)) (viewed (commands final)) first notices reached answers in
         let due = tells.0 in
         let reached_is = tells.1 in
         omega arith in
-        let push = quiet_shard index (Push (have + 1) round.notices) (Pushed round.position) taken
-        (record { no_client = λ queue which given. refl; no_items = λ queue items. refl }) bounded rest.there in
-        quiet_then before taken after (quiet_realm (Take (have + 1)) (Notices (have + 1) round.notices) before refl push.there)
-        (quiet_then taken pushed after push rest)
+        quiet_taking index first notices (Pushed reached) before (record { no_client = λ queue which given. refl; no_items = λ queue items. refl }) bounded there
+
+    -- and such as are not due yet
+    pub quiet_gap : (index first : ℕ) (notices : List Notice) (have from : ℕ) (before : History)
+        → WasThere (with_taken index first notices (Gap have from) before) → Quiet before (with_taken index first notices (Gap have from) before)
+    quiet_gap index first notices have from before there =
+        quiet_taking index first notices (Gap have from) before (record { no_client = λ queue which given. refl; no_items = λ queue items. refl }) (λ answers within. within) there
+
+    -- notices that are taken and pushed
+    pub quiet_pushes : (index need have : ℕ) (rounds : List Round) (before : History) (reached : ℕ) (after : History)
+        → TakesAndPushes index need have rounds before reached after → WasThere after → Quiet before after
+    quiet_pushes index need have [] before reached after pushes there = quiet_to before after before pushes.2 (quiet_none before) there
+    quiet_pushes index need have (round ∷ rounds) before reached after pushes there =
+        let pushed = with_taken index (have + 1) round.notices (Pushed round.position) before in
+        let rest = quiet_pushes index need round.position rounds pushed reached after pushes.1 there in
+        quiet_then before pushed after (quiet_taken index (have + 1) round.notices round.position before rest.there) rest
 
     -- and where they are needed
     pub quiet_catching_up : (index need have : ℕ) (before : History) (reached : ℕ) (after : History)
         → CatchesUp index need have before reached after → WasThere after → Quiet before after
-    quiet_catching_up index need have before reached after (inl none) there =
-        subst (Quiet before) (sym none.2) (quiet_none before (subst WasThere none.2 there))
+    quiet_catching_up index need have before reached after (inl none) there = quiet_to before after before none.2 (quiet_none before) there
     quiet_catching_up index need have before reached after (inr pushes) there =
         let noticed = with_realm_step NoticeAll (Noticed pushes.1) before in
         let rest = quiet_pushes index need have pushes.2 noticed reached after pushes.3 there in
@@ -290,3 +313,14 @@ module _ (final : List RealmStep) (count : ℕ) where
         let rest = quiet_fetches user parts (with_fetch user before part) there in
         quiet_then before (with_fetch user before part) (with_fetches user (part ∷ parts) before)
         (quiet_realm (Fetch user part.section) (realm_reply.Section part.rows part.at) before refl rest.there) rest
+
+    -- shards that are ticked
+    pub quiet_ticks : (moment index : ℕ) (expired : List (List Expired)) (before : History) → WasThere (with_ticks moment index expired before)
+        → Quiet before (with_ticks moment index expired before)
+    quiet_ticks moment index [] before there = quiet_none before there
+    quiet_ticks moment index (one ∷ others) before there =
+        let ticked = with_shard_step index (Tick moment) (Ticked one) before in
+        let rest = quiet_ticks moment (index + 1) others ticked there in
+        let tick = quiet_shard index (Tick moment) (Ticked one) before
+        (record { no_client = λ queue which given. refl; no_items = λ queue items. refl }) (λ answers within. within) rest.there in
+        quiet_then before ticked (with_ticks moment index (one ∷ others) before) tick rest

@@ -1,17 +1,20 @@
 -- The promises hold of whatever is played in a legal history.
-use Rattle.std.proofs.Common.{◌≡◌, ℕ, ◌<◌, ◌≤◌, Bool, true, List, [], ◌∷◌, ◌++◌, length, append_assoc, refl, ap, sym, subst, ◌∙◌, inl, inr, mod-lt, arith}
+use Rattle.std.proofs.Common.{◌≡◌, ℕ, ◌<◌, ◌≤◌, Bool, true, List, [], ◌∷◌, ◌++◌, length, append_assoc, refl, ap, sym, subst, ◌∙◌, mod-lt, arith}
 use Rattle.ev_base.specs.declared.ids.UserId.{UserId}
 use Rattle.zw_traces.specs.declared.realm.RealmStep.{RealmStep}
 use Rattle.zw_traces.specs.RealmTrace.{Accepted, IsLegalRealm, commands}
 use Rattle.zw_traces.specs.RealmFeeds.{IsLegalOver, changed_events, viewed}
-use Rattle.zw_traces.specs.Histories.{History, IsLegalHistory, shard_of, trace_at}
+use Rattle.zw_traces.specs.Histories.{History, shard_of, trace_at}
 use Rattle.zs_script.specs.declared.step.Step.TheVariants.{Register, View}
+use Rattle.zs_script.specs.Scripts.{moment_of, shards_of}
 use Rattle.zm_text.specs.declared.outcome.Outcome.TheVariants.{Finished, Viewed}
 use Rattle.zm_text.specs.Clients.{client_of, items_told, registration_of}
-use Rattle.zm_text.specs.Promises.{ClientsAreFresh, IdsAreSteady, Promises, ReadersAreActive, RegistersAreFresh, RegistersAreRecent, ViewsAreFresh, accepted, accepted_by}
-use Rattle.zm_text.specs.Playing.{Turn, IsPlayed, Plays}
+use Rattle.zm_text.specs.Promises.{ClientsAreFresh, IdsAreSteady, ReadersAreActive, RegistersAreFresh, RegistersAreRecent, ViewsAreFresh, accepted, accepted_by}
+use Rattle.zm_text.specs.Playing.{Turn, steps_in}
 use Rattle.zm_laws.proofs.ToldItems.{AllShown, one_event, shown_at}
 use Rattle.zm_laws.proofs.PlayedHistories.{Following, Known, WasThere, belongs_at, following_at_first}
+use Rattle.zm_laws.specs.Laws.{PromisesHold}
+use Rattle.zm_laws.proofs.Courses.{GoesOn, IsCourse, MayBePlayed, ShardsComeFirst, has_course}
 use Rattle.zm_laws.proofs.TurnPromises.{TurnKeeps}
 use Rattle.zm_laws.proofs.PlayedTurns.{turned}
 
@@ -44,13 +47,14 @@ module _ (arrives : ℕ → Bool) where
       pub each : EachKeeps (commands final) turns
 
     -- with one line more
-    played_more : (turn : Turn) (turns : List Turn) (before history : History) → Plays turn.step turn.outcome before history → WasThere final count history
-        → (WasThere final count before → PlayedSo turns before) → PlayedSo (turn ∷ turns) history
+    played_more : (turn : Turn) (turns : List Turn) (before history : History) → GoesOn (moment_of (steps_in turns)) turn.step turn.outcome before history
+        → WasThere final count history → (WasThere final count before → PlayedSo turns before) → PlayedSo (turn ∷ turns) history
     played_more turn turns before history plays there earlier =
-        let turning = turned final count legal_final turn.step turn.outcome before history plays there in
+        let moment = moment_of (steps_in turns) in
+        let turning = turned final count legal_final moment turn.step turn.outcome before history plays there in
         let so_far = earlier turning.there in
         record {
-          accepted_are = ap (accepted_by turn.step turn.outcome) so_far.accepted_are ∙ turning.accepts;
+          accepted_are = ap (accepted_by moment turn.step turn.outcome) so_far.accepted_are ∙ turning.accepts;
           following = turning.keeps (arrives (length turns)) (known_of arrives turns) so_far.following;
           each = (
             subst (λ list. TurnKeeps (commands final) (arrives (length turns)) turn.step turn.outcome list (known_of arrives turns)) (sym so_far.accepted_are)
@@ -59,18 +63,14 @@ module _ (arrives : ℕ → Bool) where
           );
         }
 
-    module _ (shards : ℕ) (some : 1 ≤ shards) where
-      -- what holds of all lines of a script
-      pub played_so : (lines : List (List ℕ)) (turns : List Turn) (history : History) → IsPlayed shards lines turns history → WasThere final count history
-          → PlayedSo turns history
-      played_so [] turns history played there =
-          subst (λ list. PlayedSo list history) (sym played.0)
-          (subst (PlayedSo []) (sym played.1)
-          (record { accepted_are = refl; following = following_at_first final count legal_final shards some (subst (WasThere final count) played.1 there); each = tt }))
-      played_so (line ∷ lines) [] history played there = played_so lines [] history played.1 there
-      played_so (line ∷ lines) (turn ∷ turns) history (inl passed) there = played_so lines (turn ∷ turns) history passed.1 there
-      played_so (line ∷ lines) (turn ∷ turns) history (inr spelled) there =
-          played_more turn turns spelled.1.0 history spelled.1.1 there (λ there_before. played_so lines turns spelled.1.0 spelled.1.2 there_before)
+    -- what holds of all lines of a script
+    pub played_so : (shards : ℕ) (turns : List Turn) (history : History) → 1 ≤ shards → IsCourse shards turns history → WasThere final count history
+        → PlayedSo turns history
+    played_so shards [] history some course there =
+        subst (PlayedSo []) (sym course)
+        (record { accepted_are = refl; following = following_at_first final count legal_final shards some (subst (WasThere final count) course there); each = tt })
+    played_so shards (turn ∷ turns) history some course there =
+        played_more turn turns course.0 history course.1 there (played_so shards turns course.0 some course.3)
 
 -- the promises, of lines that each keep them
 module _ (turns : List Turn) (each : (arrives : ℕ → Bool) → EachKeeps arrives (accepted turns) turns) where
@@ -123,14 +123,14 @@ ids_are_steady arrives final count legal_final turns history there following que
     let at_b = shown_at (changed_events all) (viewed all) queue trace middle b last at_a.1 in
     one_event (changed_events all) (viewed all) queue trace a b (user_trace final count history there following.some queue.user) at_a.0 at_b.0 same
 
--- the promises hold of whatever is played in a legal history over at least one shard
-pub promises : (shards : ℕ) (lines : List (List ℕ)) (turns : List Turn) (history : History) → 1 ≤ shards
-    → IsPlayed shards lines turns history → IsLegalHistory history → Promises turns
-promises shards lines turns history some played legal =
+-- the promises hold of whatever is played in a legal history
+pub promises : MayBePlayed → ShardsComeFirst → PromisesHold
+promises may first lines turns history played legal =
     let final = history.realm in
     let count = length history.shards in
     let there : WasThere final count history = record { sized = refl; legal = legal.realm; later = []; ends = refl; belong = legal.shards } in
-    let so = λ (arrives : ℕ → Bool). played_so arrives final count legal.realm shards some lines turns history played there in
+    let going = has_course may first lines turns history played in
+    let so = λ (arrives : ℕ → Bool). played_so arrives final count legal.realm (shards_of (steps_in turns)) turns history going.some going.course there in
     let each = λ (arrives : ℕ → Bool). subst (λ all. EachKeeps arrives all turns) (sym (so arrives).accepted_are) (so arrives).each in
     record {
       recent = registers_are_recent turns each;

@@ -37,17 +37,18 @@ use Rattle.zw_traces.specs.Clients.{Client, may_take}
 use Rattle.zw_traces.proofs.RealmTraces.{announced_within}
 use Rattle.zw_traces.proofs.Steps.{answered_tells, empty_tells, finished_tells, opened_tells, same_queue_is, same_queue_itself, same_user_is}
 use Rattle.zs_script.specs.declared.step.Step.{Step}
-use Rattle.zs_script.specs.declared.step.Step.TheVariants.{Command, NoticeAll, Push, Register, Poll, View}
+use Rattle.zs_script.specs.declared.step.Step.TheVariants.{Command, Shards, NoticeAll, Push, PushFrom, Register, Poll, DeleteQueue, Tick, Locate, View}
 use Rattle.zm_text.specs.declared.outcome.Outcome.{Outcome}
-use Rattle.zm_text.specs.declared.outcome.Outcome.TheVariants.{Committed, Refused, Noticed, Pushed, Finished, OpensSpent, TooManyQueues, FetchRefused, Answered, Empty, BadQueue, NotSent, Pruned, Viewed}
+use Rattle.zm_text.specs.declared.outcome.Outcome.TheVariants.{Committed, Refused, Sharded, Noticed, Pushed, Gap, Finished, OpensSpent, TooManyQueues, FetchRefused, Answered, Empty, BadQueue, NotSent, Pruned, Deleted, Ticked, At, Viewed}
 use Rattle.zm_text.specs.Clients.{Registration, client_after, is_among, is_taken, is_told, items_by, registration_after}
 use Rattle.zm_text.specs.Promises.{HasView, IsActive, IsSeen, accepted_by}
-use Rattle.zm_text.specs.Playing.{AreShown, CatchesUp, Plays, PlaysPush, PlaysRefusedFetch, PlaysRefusedRegister, PlaysRegister, PlaysView, Round, TakesAndPushes, moment, salt, sections, serving, with_fetches, with_opening, with_step_for}
+use Rattle.zm_text.specs.Playing.{AreShown, CatchesUp, PlaysPush, PlaysRefusedFetch, PlaysRefusedRegister, PlaysRegister, PlaysView, Round, TakesAndPushes, salt, sections, serving, with_fetches, with_opening, with_step_for}
 use Rattle.zw_laws.proofs.FedSteps.{length-with_step_at}
 use Rattle.zm_text.proofs.Fetches.{AllParts, fetched_parts, fetches_shards, part_in, parts_are}
 use Rattle.zm_laws.proofs.TraceLists.{IsAt, trace_at-same}
 use Rattle.zm_laws.proofs.QueueTurns.{IsFollowed, IsOpenedFor, followed_opening, followed_step}
-use Rattle.zm_laws.proofs.PlayedHistories.{Answered as AnsweredAt, FollowedOn, Following, IsBounded, IsQuiet, Known, Quiet, WasThere, answered_at, following_realm, following_shard, quiet_catching_up, quiet_fetches, quiet_pushes, quiet_realm, quiet_shard, quiet_then, there_before_realm, there_before_shard}
+use Rattle.zm_laws.proofs.PlayedHistories.{Answered as AnsweredAt, FollowedOn, Following, IsBounded, IsQuiet, Known, Quiet, WasThere, answered_at, following_realm, following_shard, quiet_catching_up, quiet_fetches, quiet_gap, quiet_none, quiet_pushes, quiet_realm, quiet_shard, quiet_taken, quiet_then, quiet_ticks, quiet_to, there_before_realm, there_before_shard}
+use Rattle.zm_laws.proofs.Courses.{GoesOn}
 use Rattle.zm_laws.proofs.TurnPromises.{TurnKeeps, answered_active, answered_seen, at_same, empty_seen, finished_active, finished_seen, registered_for}
 
 -- what is known after one line more, of which it is said whether what it tells arrives
@@ -134,65 +135,6 @@ catching_up_reaches index need have before reached after (inr pushes) inside sta
     pushes_reach index need have pushes.2 (with_realm_step realm.NoticeAll (realm_reply.Noticed pushes.1) before) reached after pushes.3 inside stands
 
 module _ (final : List RealmStep) (count : ℕ) (legal_final : IsLegalRealm final) where
-  -- what a line does to the history and to what is known, and that it keeps what is promised
-  pub record Turned (step : Step) (outcome : Outcome) (before after : History) : Type 0 where
-    pub there : WasThere final count before
-    pub accepts : accepted_by step outcome (commands before.realm) ≡ commands after.realm
-    pub keeps : (arrives : Bool) (known : Known) → Following final count legal_final known before → Following final count legal_final (known_after arrives step outcome known) after
-    pub promised : (arrives : Bool) (known : Known) → Following final count legal_final known before
-        → TurnKeeps (commands final) arrives step outcome (commands before.realm) known
-
-  -- a line that tells nothing and commits nothing
-  quiet_turn : (step : Step) (outcome : Outcome) (before after : History) → IsTelling step outcome ≡ false
-      → Quiet final count legal_final before after → Turned step outcome before after
-  quiet_turn (Command actor command) (Committed number id) before after not quiet = absurd (false≢true (sym not))
-  quiet_turn (Register user types asked) (Finished reached queue last state) before after not quiet = absurd (false≢true (sym not))
-  quiet_turn (Poll user queue asked beat) (Answered reached other items) before after not quiet = absurd (false≢true (sym not))
-  quiet_turn (Poll user queue asked beat) (Empty reached) before after not quiet = absurd (false≢true (sym not))
-  quiet_turn (View user) (Viewed at state) before after not quiet = absurd (false≢true (sym not))
-  quiet_turn step outcome before after not quiet = record {
-    there = quiet.there;
-    accepts = sym quiet.same;
-    keeps = λ arrives known following. quiet.keeps known following;
-    promised = λ arrives known following. record { line = tt; followed = λ queue reached is. cc; active = λ queue reached is. cc };
-  }
-
-  -- a line that commits
-  committed_turn : (actor : UserId) (command : CommandOf) (number : ℕ) (id : Option ℕ) (reply : CommitReply) (before : History)
-      → WasThere final count (with_realm_step (realm.Commit actor moment command) (realm_reply.Committed reply) before)
-      → Turned (Command actor command) (Committed number id) before (with_realm_step (realm.Commit actor moment command) (realm_reply.Committed reply) before)
-  committed_turn actor command number id reply before there = record {
-    there = there_before_realm final count legal_final (realm.Commit actor moment command) (realm_reply.Committed reply) before there;
-    accepts = refl;
-    keeps = λ arrives known following. following_realm final count legal_final (realm.Commit actor moment command) (realm_reply.Committed reply) before known there following;
-    promised = λ arrives known following. record { line = tt; followed = λ queue reached is. cc; active = λ queue reached is. cc };
-  }
-
-  -- one quiet step of the realm, or of the shard that serves a user
-  realm_turn : (step : Step) (outcome : Outcome) (input : RealmInput) (reply : RealmReply) (before after : History) → IsTelling step outcome ≡ false
-      → commands_after input reply (commands before.realm) ≡ commands before.realm
-      → after ≡ with_realm_step input reply before → WasThere final count after → Turned step outcome before after
-  realm_turn step outcome input reply before after not same is there =
-      subst (Turned step outcome before) (sym is)
-      (quiet_turn step outcome before (with_realm_step input reply before) not (quiet_realm final count legal_final input reply before same (subst (WasThere final count) is there)))
-
-  serving_turn : (step : Step) (outcome : Outcome) (user : UserId) (input : ShardInput) (reply : ShardReply) (before after : History) → IsTelling step outcome ≡ false
-      → IsQuiet final count legal_final input reply → IsBounded final count legal_final (serving user before) input reply before
-      → after ≡ with_step_for user input reply before → WasThere final count after → Turned step outcome before after
-  serving_turn step outcome user input reply before after not quiet bounded is there =
-      subst (Turned step outcome before) (sym is)
-      (quiet_turn step outcome before (with_step_for user input reply before) not (quiet_shard final count legal_final (serving user before) input reply before quiet bounded (subst (WasThere final count) is there)))
-
-  -- a push
-  push_turn : (index reached : ℕ) (before after : History) → PlaysPush index reached before after → WasThere final count after
-      → Turned (Push index) (Pushed reached) before after
-  push_turn index reached before after plays there =
-      let located = with_shard_step index shard.Locate (shard_reply.At plays.have) before in
-      let pushes = quiet_pushes final count legal_final index (announced_count before.realm) plays.have plays.rounds located reached after plays.pushed there in
-      let locate = quiet_shard final count legal_final index shard.Locate (shard_reply.At plays.have) before
-      (record { no_client = λ queue which given. refl; no_items = λ queue items. refl }) (λ answers within. within) pushes.there in
-      quiet_turn (Push index) (Pushed reached) before after refl (quiet_then final count legal_final before located after locate pushes)
-
   -- fetches of which one is refused
   quiet_refused_fetch : (user : UserId) (asked : List Section) (before after : History) → PlaysRefusedFetch user asked before after → WasThere final count after
       → Quiet final count legal_final before after
@@ -202,20 +144,6 @@ module _ (final : List RealmStep) (count : ℕ) (legal_final : IsLegalRealm fina
       subst (Quiet final count legal_final before) (sym plays.refused)
       (quiet_then final count legal_final before fetched (with_realm_step (realm.Fetch user plays.which) realm_reply.FetchRefused fetched)
       (quiet_fetches final count legal_final user plays.parts before refuse.there) refuse)
-
-  refused_register_turn : (user : UserId) (types : Types) (asked : List Section) (before after : History) → PlaysRefusedRegister user types asked before after → WasThere final count after
-      → Turned (Register user types asked) FetchRefused before after
-  refused_register_turn user types asked before after plays there =
-      let started = with_opening user types asked plays.queue plays.have before in
-      let deleted = with_step_for user (shard.Delete user plays.queue) shard_reply.Deleted plays.given_up in
-      let delete = quiet_shard final count legal_final (serving user plays.given_up) (shard.Delete user plays.queue) shard_reply.Deleted plays.given_up
-      (record { no_client = λ queue which given. refl; no_items = λ queue items. refl }) (λ answers within. within) (subst (WasThere final count) plays.deletes there) in
-      let refuse = quiet_refused_fetch user asked started plays.given_up plays.fetches delete.there in
-      let start = quiet_shard final count legal_final (serving user before) (shard.Start user salt moment types asked) (shard_reply.Opened plays.queue plays.have) before
-      (record { no_client = λ queue which given. refl; no_items = λ queue items. refl }) (λ answers within. within) refuse.there in
-      subst (Turned (Register user types asked) FetchRefused before) (sym plays.deletes)
-      (quiet_turn (Register user types asked) FetchRefused before deleted refl
-      (quiet_then final count legal_final before started deleted start (quiet_then final count legal_final started plays.given_up deleted refuse delete)))
 
   -- the shard that serves a user is there
   pub serving_inside : (user : UserId) (history : History) → WasThere final count history → 1 ≤ count
@@ -242,364 +170,463 @@ module _ (final : List RealmStep) (count : ℕ) (legal_final : IsLegalRealm fina
   other_queue i queue other served inside not =
       false_from_ne_true (same_queue queue other) (λ same. not (ap (λ q. shard_of count q.user) (same_queue_is queue other same) ∙ served, inside))
 
-  -- a view
-  view_turn : (user : UserId) (at : ℕ) (state : State) (before after : History) → PlaysView user at (sections_of state) before after → WasThere final count after
-      → Turned (View user) (Viewed at state) before after
-  view_turn user at state before after plays there =
-      let fetched = subst (WasThere final count) plays.fetches there in
-      let quiet = quiet_fetches final count legal_final user plays.parts before fetched in
-      let shows = shows_view user at (sections_of state) (commands before.realm) plays.parts plays.in_order plays.shown (fetched_parts user plays.parts before fetched.legal) in
-      subst (Turned (View user) (Viewed at state) before) (sym plays.fetches)
-      (record {
-        there = quiet.there;
-        accepts = sym quiet.same;
-        keeps = λ arrives known following. quiet.keeps known following;
-        promised = λ arrives known following. record {
-          line = record { counted = shows.counted; seen = shows.seen; active = shows.active };
-          followed = λ queue reached is. cc;
-          active = λ queue reached is. cc;
-        };
-      })
+  module _ (moment : ℕ) where
+    -- what a line does to the history and to what is known, and that it keeps what is promised
+    pub record Turned (step : Step) (outcome : Outcome) (before after : History) : Type 0 where
+      pub there : WasThere final count before
+      pub accepts : accepted_by moment step outcome (commands before.realm) ≡ commands after.realm
+      pub keeps : (arrives : Bool) (known : Known) → Following final count legal_final known before → Following final count legal_final (known_after arrives step outcome known) after
+      pub promised : (arrives : Bool) (known : Known) → Following final count legal_final known before
+          → TurnKeeps (commands final) arrives step outcome (commands before.realm) known
 
-  module _ (user : UserId) (types : Types) (asked : List Section) where
-    -- a registration up to its finish
-    record Registering (queue : QueueId) (before caught : History) : Type 0 where
-      quiet : Quiet final count legal_final before caught
-      opens : (known : Known) → Following final count legal_final known before
-          → Following final count legal_final (known_opened queue (record { types = types; asked = asked }) known) caught
-      own : 1 ≤ count → queue.user ≡ user
-      recent : 1 ≤ count → commits before.realm ≤ position_of (trace_at (serving user caught) caught.shards)
+    -- a line that tells nothing and commits nothing
+    quiet_turn : (step : Step) (outcome : Outcome) (before after : History) → IsTelling step outcome ≡ false
+        → Quiet final count legal_final before after → Turned step outcome before after
+    quiet_turn (Command actor command) (Committed number id) before after not quiet = absurd (false≢true (sym not))
+    quiet_turn (Register user types asked) (Finished reached queue last state) before after not quiet = absurd (false≢true (sym not))
+    quiet_turn (Poll user queue asked beat) (Answered reached other items) before after not quiet = absurd (false≢true (sym not))
+    quiet_turn (Poll user queue asked beat) (Empty reached) before after not quiet = absurd (false≢true (sym not))
+    quiet_turn (View user) (Viewed at state) before after not quiet = absurd (false≢true (sym not))
+    quiet_turn step outcome before after not quiet = record {
+      there = quiet.there;
+      accepts = sym quiet.same;
+      keeps = λ arrives known following. quiet.keeps known following;
+      promised = λ arrives known following. record { line = tt; followed = λ queue reached is. cc; active = λ queue reached is. cc };
+    }
 
-    -- the opening of its queue
-    module _ (queue : QueueId) (have : ℕ) (before : History) (there : WasThere final count (with_opening user types asked queue have before)) where
-      pub there_started : WasThere final count before
-      there_started = there_before_shard final count legal_final (serving user before) (shard.Start user salt moment types asked) (shard_reply.Opened queue have) before there
+    -- a line that commits
+    committed_turn : (actor : UserId) (command : CommandOf) (number : ℕ) (id : Option ℕ) (reply : CommitReply) (before : History)
+        → WasThere final count (with_realm_step (realm.Commit actor moment command) (realm_reply.Committed reply) before)
+        → Turned (Command actor command) (Committed number id) before (with_realm_step (realm.Commit actor moment command) (realm_reply.Committed reply) before)
+    committed_turn actor command number id reply before there = record {
+      there = there_before_realm final count legal_final (realm.Commit actor moment command) (realm_reply.Committed reply) before there;
+      accepts = refl;
+      keeps = λ arrives known following. following_realm final count legal_final (realm.Commit actor moment command) (realm_reply.Committed reply) before known there following;
+      promised = λ arrives known following. record { line = tt; followed = λ queue reached is. cc; active = λ queue reached is. cc };
+    }
 
-      opening_at : 1 ≤ count → AnsweredAt final count (serving user before) (shard.Start user salt moment types asked) (shard_reply.Opened queue have) (trace_at (serving user before) before.shards)
-      opening_at some = answered_at final count legal_final (serving user before) (shard.Start user salt moment types asked) (shard_reply.Opened queue have) before there (serving_inside user before there_started some).0
+    -- one that ends where quiet steps are known to
+    quiet_end : (step : Step) (outcome : Outcome) (before after target : History) → IsTelling step outcome ≡ false → after ≡ target
+        → (WasThere final count target → Quiet final count legal_final before target) → WasThere final count after → Turned step outcome before after
+    quiet_end step outcome before after target not is quiet there =
+        quiet_turn step outcome before after not (quiet_to final count legal_final before after target is quiet there)
 
-      pub opening_tells : 1 ≤ count → (queue.user ≡ user) × (have ≡ position_of (trace_at (serving user before) before.shards))
-      opening_tells some =
-          let tells = opened_tells (shard_account (changed_events (commands final)) (trace_at (serving user before) before.shards)) (viewed (commands final)) user salt moment types asked queue have (opening_at some).answers in
-          (ap (λ q. q.user) tells.0, tells.1)
+    -- one quiet step of the realm, or of the shard that serves a user
+    realm_turn : (step : Step) (outcome : Outcome) (input : RealmInput) (reply : RealmReply) (before after : History) → IsTelling step outcome ≡ false
+        → commands_after input reply (commands before.realm) ≡ commands before.realm
+        → after ≡ with_realm_step input reply before → WasThere final count after → Turned step outcome before after
+    realm_turn step outcome input reply before after not same is there =
+        quiet_end step outcome before after (with_realm_step input reply before) not is (quiet_realm final count legal_final input reply before same) there
 
-      opening_known : (known : Known) → Following final count legal_final known before
-          → Following final count legal_final (known_opened queue (record { types = types; asked = asked }) known) (with_opening user types asked queue have before)
-      opening_known known following =
-          let i = serving user before in
-          let r : Registration = record { types = types; asked = asked } in
-          let served = ap (shard_of count) (opening_tells following.some).0 ∙ sym (serving_is user before there_started) in
-          let inside = (serving_inside user before there_started following.some).1 in
-          following_shard final count legal_final i (shard.Start user salt moment types asked) (shard_reply.Opened queue have) before known (known_opened queue r known)
-          (record {
-            here = λ q trace belongs inner. followed_opening final q trace user salt moment types asked queue have (known.clients q) (known.items q) (known.registrations q) belongs.legal inner;
-            elsewhere = λ q trace not inner.
-                subst (λ same. IsFollowed final q (known.clients q) (known.items q) (cond same (Some r) (known.registrations q)) trace) (sym (other_queue i q queue served inside not)) inner;
-          })
-          (λ answers within. within) there following
+    serving_turn : (step : Step) (outcome : Outcome) (user : UserId) (input : ShardInput) (reply : ShardReply) (before after : History) → IsTelling step outcome ≡ false
+        → IsQuiet final count legal_final input reply → IsBounded final count legal_final (serving user before) input reply before
+        → after ≡ with_step_for user input reply before → WasThere final count after → Turned step outcome before after
+    serving_turn step outcome user input reply before after not quiet bounded is there =
+        quiet_end step outcome before after (with_step_for user input reply before) not is
+        (quiet_shard final count legal_final (serving user before) input reply before quiet bounded) there
 
-    -- what the steps of a registration before its finish tell
-    registering : (queue : QueueId) (reply : ShardReply) (before after : History) (plays : PlaysRegister user types asked queue reply before after)
-        → WasThere final count plays.caught → Registering queue before plays.caught
-    registering queue reply before after plays there =
-        let index = serving user before in
-        let need = max (needed asked plays.parts) (commits before.realm) in
-        let started = with_opening user types asked queue plays.have before in
-        let fetched = with_fetches user plays.parts started in
-        let rest = quiet_catching_up final count legal_final index need plays.have fetched plays.position plays.caught plays.catches_up there in
-        let fetch = quiet_fetches final count legal_final user plays.parts started rest.there in
-        let start = quiet_shard final count legal_final index (shard.Start user salt moment types asked) (shard_reply.Opened queue plays.have) before
-        (record { no_client = λ q which given. refl; no_items = λ q items. refl }) (λ answers within. within) fetch.there in
-        let on = quiet_then final count legal_final started fetched plays.caught fetch rest in
-        record {
-          quiet = quiet_then final count legal_final before started plays.caught start on;
-          opens = λ known following. on.keeps (known_opened queue (record { types = types; asked = asked }) known) (opening_known queue plays.have before fetch.there known following);
-          own = λ some. (opening_tells queue plays.have before fetch.there some).0;
-          recent = λ some.
-              let step : ShardStep = record { input = shard.Start user salt moment types asked; reply = shard_reply.Opened queue plays.have } in
-              let inside = (serving_inside user before start.there some).0 in
-              let shards_are = fetches_shards user plays.parts started in
-              let place = sym (opening_tells queue plays.have before fetch.there some).1 in
-              let stands : position_of (trace_at index fetched.shards) ≡ plays.have =
-              ap (λ (traces : List (List ShardStep)). position_of (trace_at index traces)) shards_are
-              ∙ ap position_of (trace_at-same index step before.shards inside) ∙ place in
-              let long = ap length shards_are in
-              let grown = length-with_step_at index step before.shards in
-              let reach = catching_up_reaches index need plays.have fetched plays.position plays.caught plays.catches_up (omega arith) stands in
-              let here = ap (λ (n : ℕ). position_of (trace_at n plays.caught.shards)) (serving_is user plays.caught there ∙ sym (serving_is user before start.there)) in
-              omega arith;
-        }
+    -- a push
+    push_turn : (index reached : ℕ) (before after : History) → PlaysPush index reached before after → WasThere final count after
+        → Turned (Push index) (Pushed reached) before after
+    push_turn index reached before after plays there =
+        let located = with_shard_step index shard.Locate (shard_reply.At plays.have) before in
+        let pushes = quiet_pushes final count legal_final index (announced_count before.realm) plays.have plays.rounds located reached after plays.pushed there in
+        let locate = quiet_shard final count legal_final index shard.Locate (shard_reply.At plays.have) before
+        (record { no_client = λ queue which given. refl; no_items = λ queue items. refl }) (λ answers within. within) pushes.there in
+        quiet_turn (Push index) (Pushed reached) before after refl (quiet_then final count legal_final before located after locate pushes)
 
-    module _ (reached : ℕ) (queue : QueueId) (last : ℤ) (state : State) (parts : List FetchedSection) (caught : History)
-        (there : WasThere final count (with_step_for user (shard.Finish queue parts) (shard_reply.Finished state last reached) caught)) where
-      -- the history before the finish, and what the finish tells
-      there_caught : WasThere final count caught
-      there_caught = there_before_shard final count legal_final (serving user caught) (shard.Finish queue parts) (shard_reply.Finished state last reached) caught there
+    -- a registration of which a fetch is refused
+    refused_register_turn : (user : UserId) (types : Types) (asked : List Section) (before after : History) → PlaysRefusedRegister moment user types asked before after → WasThere final count after
+        → Turned (Register user types asked) FetchRefused before after
+    refused_register_turn user types asked before after plays there =
+        let started = with_opening moment user types asked plays.queue plays.have before in
+        let deleted = with_step_for user (shard.Delete user plays.queue) shard_reply.Deleted plays.given_up in
+        let delete = quiet_shard final count legal_final (serving user plays.given_up) (shard.Delete user plays.queue) shard_reply.Deleted plays.given_up
+        (record { no_client = λ queue which given. refl; no_items = λ queue items. refl }) (λ answers within. within) (subst (WasThere final count) plays.deletes there) in
+        let refuse = quiet_refused_fetch user asked started plays.given_up plays.fetches delete.there in
+        let start = quiet_shard final count legal_final (serving user before) (shard.Start user salt moment types asked) (shard_reply.Opened plays.queue plays.have) before
+        (record { no_client = λ queue which given. refl; no_items = λ queue items. refl }) (λ answers within. within) refuse.there in
+        subst (Turned (Register user types asked) FetchRefused before) (sym plays.deletes)
+        (quiet_turn (Register user types asked) FetchRefused before deleted refl
+        (quiet_then final count legal_final before started deleted start (quiet_then final count legal_final started plays.given_up deleted refuse delete)))
 
-      finished_at : 1 ≤ count → AnsweredAt final count (serving user caught) (shard.Finish queue parts) (shard_reply.Finished state last reached) (trace_at (serving user caught) caught.shards)
-      finished_at some = answered_at final count legal_final (serving user caught) (shard.Finish queue parts) (shard_reply.Finished state last reached) caught there (serving_inside user caught there_caught some).0
-
-      -- the finish gives its queue's clients the view
-      finished_keeps : (arrives : Bool) (known : Known) → Following final count legal_final (known_opened queue (record { types = types; asked = asked }) known) caught
-          → Following final count legal_final (known_after arrives (Register user types asked) (Finished reached queue last state) known) (with_step_for user (shard.Finish queue parts) (shard_reply.Finished state last reached) caught)
-      finished_keeps arrives known following =
-          let i = serving user caught in
-          let finish = finished_at following.some in
-          let inside = (serving_inside user caught there_caught following.some).1 in
-          let opened = known_opened queue (record { types = types; asked = asked }) known in
-          let later = known_after arrives (Register user types asked) (Finished reached queue last state) known in
-          following_shard final count legal_final i (shard.Finish queue parts) (shard_reply.Finished state last reached) caught opened later
-          (record {
-            here = λ q trace belongs inner.
-                followed_step final q arrives trace (shard.Finish queue parts) (shard_reply.Finished state last reached) (opened.clients q) (opened.items q) (opened.registrations q) belongs.legal inner;
-            elsewhere = λ q trace not inner.
-                let clients : Bool → Section → Option Client = λ same which.
-                cond same (option_map (λ rows. record { rows = rows; count = count_of last }) (rows_of which (sections_of state))) (known.clients q which) in
-                subst (λ same. IsFollowed final q (clients same) (opened.items q) (opened.registrations q) trace) (sym (other_queue i q queue finish.served inside not)) inner;
-          })
-          (λ answers within. within) there following
-
-      -- what the account of the queue says at the finish
-      opened_here : (known : Known) → queue.user ≡ user → Following final count legal_final (known_opened queue (record { types = types; asked = asked }) known) caught
-          → IsOpenedFor (record { types = types; asked = asked }) (account_over final queue (trace_at (serving user caught) caught.shards))
-      opened_here known own following =
-          let r : Registration = record { types = types; asked = asked } in
-          let here = ap (shard_of count) own ∙ sym (serving_is user caught there_caught) in
-          let at_shard = (following.followed queue).opened r (ap (λ same. cond same (Some r) (known.registrations queue)) (same_queue_itself queue)) in
-          subst (λ n. IsOpenedFor r (account_over final queue (trace_at n caught.shards))) here at_shard
-
-      -- and keeps what is promised of it
-      finished_is : (arrives : Bool) (known : Known) (before : History) → Registering queue before caught
-          → Following final count legal_final (known_opened queue (record { types = types; asked = asked }) known) caught
-          → TurnKeeps (commands final) arrives (Register user types asked) (Finished reached queue last state) (commands before.realm) known
-      finished_is arrives known before flow following =
-          let r : Registration = record { types = types; asked = asked } in
-          let i = serving user caught in
-          let trace = trace_at i caught.shards in
-          let all = commands final in
-          let earlier = commands before.realm in
-          let opened = known_opened queue r known in
-          let finish = finished_at following.some in
-          let tells = finished_tells queue.user (account_of (changed_events all) queue trace) (position_of trace) (viewed all) parts state last reached finish.answers in
-          let own = flow.own following.some in
-          let recent = flow.recent following.some in
-          let reached_is = tells.reached_is in
-          let same = ap length flow.quiet.same in
-          let made_now = position_made i reached opened caught there_caught following reached_is in
-          let made : reached ≤ length earlier = omega arith in
-          let opened_for = opened_here known own following in
-          let seen = finished_seen final count (0 + i) legal_final queue trace parts state last reached finish.belongs r opened_for in
-          let active = finished_active final count (0 + i) legal_final queue trace parts state last reached finish.belongs r opened_for in
-          let Gives : QueueId → ℕ → Type 0 = λ o m. (which : Section) → option_map_or (is_told which) (Some r) false ≡ true
-          → HasView o.user which m earlier all (option_map (λ rows. record { rows = rows; count = count_of last }) (rows_of which (sections_of state))) in
-          let IsOf : QueueId → ℕ → Type 0 = λ o m. asked ≢ [] → IsActive o.user (prefix_of m all) in
-          let gives : Gives queue reached = λ which tells.
-          let for = registered_for which (Some r) tells in
-          let it : r ≡ for.r = cc in
-          let rows_are = seen which (ap (λ (x : Registration). is_among x.asked which) it ∙ for.among) (ap (λ (x : Registration). covers x.types which) it ∙ for.covered) in
-          record { made = made; has = record { rows = section_of which (view_after queue.user reached all); count = count_of last }; is = ap (option_map (λ rows. record { rows = rows; count = count_of last })) rows_are; seen = refl } in
-          record {
-            line = record {
-              recent = record { own = own; made = made; recent = omega arith };
-              fresh = λ which among covered. subst (λ reader. IsSeen reader which reached all (rows_of which (sections_of state))) own (seen which among covered);
-            };
-            followed = λ q n is which told takes.
-                let moved = at_same q queue n reached Gives gives (same_queue q queue) refl is in
-                finished_gives q n which moved.0 moved.1 told;
-            active = λ q n is registration known_is some.
-                let moved = at_same q queue n reached IsOf active (same_queue q queue) refl is in
-                finished_of q n registration moved.0 moved.1 known_is some;
-          }
-        where
-          finished_gives : (q : QueueId) (n : ℕ) (which : Section) → same_queue q queue ≡ true
-              → ((which : Section) → option_map_or (is_told which) (Some (record { types = types; asked = asked })) false ≡ true
-              → HasView q.user which n (commands before.realm) (commands final) (option_map (λ rows. record { rows = rows; count = count_of last }) (rows_of which (sections_of state))))
-              → option_map_or (is_told which) (cond (same_queue q queue) (Some (record { types = types; asked = asked })) (known.registrations q)) false ≡ true
-              → HasView q.user which n (commands before.realm) (commands final) (cond (same_queue q queue) (option_map (λ rows. record { rows = rows; count = count_of last }) (rows_of which (sections_of state))) (known.clients q which))
-          finished_gives q n which same gives told =
-              let r : Registration = record { types = types; asked = asked } in
-              let told_now = subst (λ s. option_map_or (is_told which) (cond s (Some r) (known.registrations q)) false ≡ true) same told in
-              subst (λ s. HasView q.user which n (commands before.realm) (commands final) (cond s (option_map (λ rows. record { rows = rows; count = count_of last }) (rows_of which (sections_of state))) (known.clients q which))) (sym same)
-              (gives which told_now)
-
-          finished_of : (q : QueueId) (n : ℕ) (registration : Registration) → same_queue q queue ≡ true → (asked ≢ [] → IsActive q.user (prefix_of n (commands final)))
-              → cond (same_queue q queue) (Some (record { types = types; asked = asked })) (known.registrations q) ≡ Some registration → registration.asked ≢ []
-              → IsActive q.user (prefix_of n (commands final))
-          finished_of q n registration same active is some =
-              let r : Registration = record { types = types; asked = asked } in
-              let known_now = subst (λ s. cond s (Some r) (known.registrations q) ≡ Some registration) same is in
-              let it : r ≡ registration = cc in
-              active (λ none. some (sym (ap (λ (x : Registration). x.asked) it) ∙ none))
-
-    -- a line that registers
-    register_turn : (reached : ℕ) (queue : QueueId) (last : ℤ) (state : State) (before after : History)
-        → PlaysRegister user types asked queue (shard_reply.Finished state last reached) before after → WasThere final count after
-        → Turned (Register user types asked) (Finished reached queue last state) before after
-    register_turn reached queue last state before after plays there =
-        let there_finished = subst (WasThere final count) plays.finishes there in
-        let flow = registering queue (shard_reply.Finished state last reached) before after plays (there_caught reached queue last state plays.parts plays.caught there_finished) in
-        subst (Turned (Register user types asked) (Finished reached queue last state) before) (sym plays.finishes)
+    -- a view
+    view_turn : (user : UserId) (at : ℕ) (state : State) (before after : History) → PlaysView user at (sections_of state) before after → WasThere final count after
+        → Turned (View user) (Viewed at state) before after
+    view_turn user at state before after plays there =
+        let fetched = subst (WasThere final count) plays.fetches there in
+        let quiet = quiet_fetches final count legal_final user plays.parts before fetched in
+        let shows = shows_view user at (sections_of state) (commands before.realm) plays.parts plays.in_order plays.shown (fetched_parts user plays.parts before fetched.legal) in
+        subst (Turned (View user) (Viewed at state) before) (sym plays.fetches)
         (record {
-          there = flow.quiet.there;
-          accepts = sym flow.quiet.same;
-          keeps = λ arrives known following. finished_keeps reached queue last state plays.parts plays.caught there_finished arrives known (flow.opens known following);
-          promised = λ arrives known following. finished_is reached queue last state plays.parts plays.caught there_finished arrives known before flow (flow.opens known following);
+          there = quiet.there;
+          accepts = sym quiet.same;
+          keeps = λ arrives known following. quiet.keeps known following;
+          promised = λ arrives known following. record {
+            line = record { counted = shows.counted; seen = shows.seen; active = shows.active };
+            followed = λ queue reached is. cc;
+            active = λ queue reached is. cc;
+          };
         })
 
-    -- and one whose queue is gone by its finish
-    lost_register_turn : (queue : QueueId) (before after : History) → PlaysRegister user types asked queue shard_reply.BadQueue before after → WasThere final count after
-        → Turned (Register user types asked) BadQueue before after
-    lost_register_turn queue before after plays there =
-        let lost = with_step_for user (shard.Finish queue plays.parts) shard_reply.BadQueue plays.caught in
-        let finish = quiet_shard final count legal_final (serving user plays.caught) (shard.Finish queue plays.parts) shard_reply.BadQueue plays.caught
-        (record { no_client = λ q which given. refl; no_items = λ q items. refl }) (λ answers within. within) (subst (WasThere final count) plays.finishes there) in
-        let flow = registering queue shard_reply.BadQueue before after plays finish.there in
-        subst (Turned (Register user types asked) BadQueue before) (sym plays.finishes)
-        (quiet_turn (Register user types asked) BadQueue before lost refl (quiet_then final count legal_final before plays.caught lost flow.quiet finish))
+    module _ (user : UserId) (types : Types) (asked : List Section) where
+      -- a registration up to its finish
+      record Registering (queue : QueueId) (before caught : History) : Type 0 where
+        quiet : Quiet final count legal_final before caught
+        opens : (known : Known) → Following final count legal_final known before
+            → Following final count legal_final (known_opened queue (record { types = types; asked = asked }) known) caught
+        own : 1 ≤ count → queue.user ≡ user
+        recent : 1 ≤ count → commits before.realm ≤ position_of (trace_at (serving user caught) caught.shards)
 
-  module _ (user : UserId) (queue : QueueId) (asked : ℤ) (beat : Bool) (before : History) (reply : ShardReply)
-      (there : WasThere final count (with_step_for user (shard.Poll user queue asked moment beat) reply before)) where
-    -- the history before a poll, and what the poll tells
-    there_polled : WasThere final count before
-    there_polled = there_before_shard final count legal_final (serving user before) (shard.Poll user queue asked moment beat) reply before there
+      -- the opening of its queue
+      module _ (queue : QueueId) (have : ℕ) (before : History) (there : WasThere final count (with_opening moment user types asked queue have before)) where
+        pub there_started : WasThere final count before
+        there_started = there_before_shard final count legal_final (serving user before) (shard.Start user salt moment types asked) (shard_reply.Opened queue have) before there
 
-    polled_at : 1 ≤ count → AnsweredAt final count (serving user before) (shard.Poll user queue asked moment beat) reply (trace_at (serving user before) before.shards)
-    polled_at some = answered_at final count legal_final (serving user before) (shard.Poll user queue asked moment beat) reply before there (serving_inside user before there_polled some).0
+        opening_at : 1 ≤ count → AnsweredAt final count (serving user before) (shard.Start user salt moment types asked) (shard_reply.Opened queue have) (trace_at (serving user before) before.shards)
+        opening_at some = answered_at final count legal_final (serving user before) (shard.Start user salt moment types asked) (shard_reply.Opened queue have) before there (serving_inside user before there_started some).0
 
-    -- the queue of a user is in the trace of the shard that serves the user
-    queue_there : same_user queue.user user ≡ true → shard_of count queue.user ≡ serving user before
-    queue_there own = ap (shard_of count) (same_user_is queue.user user own) ∙ sym (serving_is user before there_polled)
+        pub opening_tells : 1 ≤ count → (queue.user ≡ user) × (have ≡ position_of (trace_at (serving user before) before.shards))
+        opening_tells some =
+            let tells = opened_tells (shard_account (changed_events (commands final)) (trace_at (serving user before) before.shards)) (viewed (commands final)) user salt moment types asked queue have (opening_at some).answers in
+            (ap (λ q. q.user) tells.0, tells.1)
 
-    followed_here : (known : Known) → same_user queue.user user ≡ true → Following final count legal_final known before
-        → FollowedOn final count legal_final known queue (trace_at (serving user before) before.shards)
-    followed_here known own following =
-        subst (λ n. FollowedOn final count legal_final known queue (trace_at n before.shards)) (queue_there own) (following.followed queue)
-
-  -- a poll that is answered, with items or with none
-  answered_turn : (user : UserId) (queue : QueueId) (asked : ℤ) (beat : Bool) (reached : ℕ) (items : List Item) (before : History)
-      → WasThere final count (with_step_for user (shard.Poll user queue asked moment beat) (shard_reply.Answer items reached) before)
-      → Turned (Poll user queue asked beat) (Answered reached queue items) before (with_step_for user (shard.Poll user queue asked moment beat) (shard_reply.Answer items reached) before)
-  answered_turn user queue asked beat reached items before there = record {
-    there = there_polled user queue asked beat before (shard_reply.Answer items reached) there;
-    accepts = refl;
-    keeps = λ arrives known following.
-        let i = serving user before in
-        let poll = polled_at user queue asked beat before (shard_reply.Answer items reached) there following.some in
-        let tells = answered_tells queue.user (account_of (changed_events (commands final)) queue (trace_at i before.shards)) (position_of (trace_at i before.shards)) user asked beat items reached poll.answers in
-        let here = queue_there user queue asked beat before (shard_reply.Answer items reached) there tells.polling.own in
-        let inside = (serving_inside user before (there_polled user queue asked beat before (shard_reply.Answer items reached) there) following.some).1 in
-        following_shard final count legal_final i (shard.Poll user queue asked moment beat) (shard_reply.Answer items reached) before known
-        (known_after arrives (Poll user queue asked beat) (Answered reached queue items) known)
-        (record {
-          here = λ q trace belongs inner.
-              followed_step final q arrives trace (shard.Poll user queue asked moment beat) (shard_reply.Answer items reached) (known.clients q) (known.items q) (known.registrations q) belongs.legal inner;
-          elsewhere = λ q trace not inner.
-              let clients : Bool → Section → Option Client = λ same which. cond same (option_map (may_take arrives (count_of asked) items) (known.clients q which)) (known.clients q which) in
-              subst (λ same. IsFollowed final q (clients same) (cond same items [] ++ known.items q) (known.registrations q) trace) (sym (other_queue i q queue here inside not)) inner;
-        })
-        (λ answers within. within) there following;
-    promised = λ arrives known following.
-        let i = serving user before in
-        let all = commands final in
-        let earlier = commands before.realm in
-        let trace = trace_at i before.shards in
-        let reply = shard_reply.Answer items reached in
-        let poll = polled_at user queue asked beat before reply there following.some in
-        let tells = answered_tells queue.user (account_of (changed_events all) queue trace) (position_of trace) user asked beat items reached poll.answers in
-        let followed = followed_here user queue asked beat before reply there known tells.polling.own following in
-        let made = position_made i reached known before (there_polled user queue asked beat before reply there) following tells.reached_is in
-        let Gives : QueueId → ℕ → Type 0 = λ o m. (which : Section) → option_map_or (is_told which) (known.registrations o) false ≡ true
-        → is_taken arrives (Poll user queue asked beat) (known.clients o which) ≡ true
-        → HasView o.user which m earlier all (option_map (may_take arrives (count_of asked) items) (known.clients o which)) in
-        let IsOf : QueueId → ℕ → Type 0 = λ o m. (r : Registration) → known.registrations o ≡ Some r → r.asked ≢ [] → IsActive o.user (prefix_of m all) in
-        let gives : Gives queue reached = λ which told takes.
-        let for = registered_for which (known.registrations queue) told in
-        answered_seen final count (0 + i) legal_final queue trace arrives user asked moment beat reached earlier made which (known.clients queue which)
-        (followed.has which) for.r (followed.opened for.r for.is) for.among for.covered takes items poll.belongs in
-        let active : IsOf queue reached = λ r is some.
-        answered_active final count (0 + i) legal_final queue trace user asked moment beat reply reached poll.belongs refl r (followed.opened r is) some in
-        record {
-          line = tt;
-          followed = λ q n is which told takes.
-              let moved = at_same q queue n reached Gives gives (same_queue q queue) refl is in
-              subst (λ same. HasView q.user which n earlier all (cond same (option_map (may_take arrives (count_of asked) items) (known.clients q which)) (known.clients q which))) (sym moved.0)
-              (moved.1 which told takes);
-          active = λ q n is registration known_is some. (at_same q queue n reached IsOf active (same_queue q queue) refl is).1 registration known_is some;
-        };
-  }
-
-  empty_turn : (user : UserId) (queue : QueueId) (asked : ℤ) (beat : Bool) (reached : ℕ) (before : History)
-      → WasThere final count (with_step_for user (shard.Poll user queue asked moment beat) (shard_reply.Empty reached) before)
-      → Turned (Poll user queue asked beat) (Empty reached) before (with_step_for user (shard.Poll user queue asked moment beat) (shard_reply.Empty reached) before)
-  empty_turn user queue asked beat reached before there =
-      let quiet = quiet_shard final count legal_final (serving user before) (shard.Poll user queue asked moment beat) (shard_reply.Empty reached) before
-      (record { no_client = λ q which given. refl; no_items = λ q items. refl }) (λ answers within. within) there in
-      record {
-        there = quiet.there;
-        accepts = refl;
-        keeps = λ arrives known following. quiet.keeps known following;
-        promised = λ arrives known following.
+        opening_known : (known : Known) → Following final count legal_final known before
+            → Following final count legal_final (known_opened queue (record { types = types; asked = asked }) known) (with_opening moment user types asked queue have before)
+        opening_known known following =
             let i = serving user before in
+            let r : Registration = record { types = types; asked = asked } in
+            let served = ap (shard_of count) (opening_tells following.some).0 ∙ sym (serving_is user before there_started) in
+            let inside = (serving_inside user before there_started following.some).1 in
+            following_shard final count legal_final i (shard.Start user salt moment types asked) (shard_reply.Opened queue have) before known (known_opened queue r known)
+            (record {
+              here = λ q trace belongs inner. followed_opening final q trace user salt moment types asked queue have (known.clients q) (known.items q) (known.registrations q) belongs.legal inner;
+              elsewhere = λ q trace not inner.
+                  subst (λ same. IsFollowed final q (known.clients q) (known.items q) (cond same (Some r) (known.registrations q)) trace) (sym (other_queue i q queue served inside not)) inner;
+            })
+            (λ answers within. within) there following
+
+      -- what the steps of a registration before its finish tell
+      registering : (queue : QueueId) (reply : ShardReply) (before after : History) (plays : PlaysRegister moment user types asked queue reply before after)
+          → WasThere final count plays.caught → Registering queue before plays.caught
+      registering queue reply before after plays there =
+          let index = serving user before in
+          let need = max (needed asked plays.parts) (commits before.realm) in
+          let started = with_opening moment user types asked queue plays.have before in
+          let fetched = with_fetches user plays.parts started in
+          let rest = quiet_catching_up final count legal_final index need plays.have fetched plays.position plays.caught plays.catches_up there in
+          let fetch = quiet_fetches final count legal_final user plays.parts started rest.there in
+          let start = quiet_shard final count legal_final index (shard.Start user salt moment types asked) (shard_reply.Opened queue plays.have) before
+          (record { no_client = λ q which given. refl; no_items = λ q items. refl }) (λ answers within. within) fetch.there in
+          let on = quiet_then final count legal_final started fetched plays.caught fetch rest in
+          record {
+            quiet = quiet_then final count legal_final before started plays.caught start on;
+            opens = λ known following. on.keeps (known_opened queue (record { types = types; asked = asked }) known) (opening_known queue plays.have before fetch.there known following);
+            own = λ some. (opening_tells queue plays.have before fetch.there some).0;
+            recent = λ some.
+                let step : ShardStep = record { input = shard.Start user salt moment types asked; reply = shard_reply.Opened queue plays.have } in
+                let inside = (serving_inside user before start.there some).0 in
+                let shards_are = fetches_shards user plays.parts started in
+                let place = sym (opening_tells queue plays.have before fetch.there some).1 in
+                let stands : position_of (trace_at index fetched.shards) ≡ plays.have =
+                ap (λ (traces : List (List ShardStep)). position_of (trace_at index traces)) shards_are
+                ∙ ap position_of (trace_at-same index step before.shards inside) ∙ place in
+                let long = ap length shards_are in
+                let grown = length-with_step_at index step before.shards in
+                let reach = catching_up_reaches index need plays.have fetched plays.position plays.caught plays.catches_up (omega arith) stands in
+                let here = ap (λ (n : ℕ). position_of (trace_at n plays.caught.shards)) (serving_is user plays.caught there ∙ sym (serving_is user before start.there)) in
+                omega arith;
+          }
+
+      module _ (reached : ℕ) (queue : QueueId) (last : ℤ) (state : State) (parts : List FetchedSection) (caught : History)
+          (there : WasThere final count (with_step_for user (shard.Finish queue parts) (shard_reply.Finished state last reached) caught)) where
+        -- the history before the finish, and what the finish tells
+        there_caught : WasThere final count caught
+        there_caught = there_before_shard final count legal_final (serving user caught) (shard.Finish queue parts) (shard_reply.Finished state last reached) caught there
+
+        finished_at : 1 ≤ count → AnsweredAt final count (serving user caught) (shard.Finish queue parts) (shard_reply.Finished state last reached) (trace_at (serving user caught) caught.shards)
+        finished_at some = answered_at final count legal_final (serving user caught) (shard.Finish queue parts) (shard_reply.Finished state last reached) caught there (serving_inside user caught there_caught some).0
+
+        -- the finish gives its queue's clients the view
+        finished_keeps : (arrives : Bool) (known : Known) → Following final count legal_final (known_opened queue (record { types = types; asked = asked }) known) caught
+            → Following final count legal_final (known_after arrives (Register user types asked) (Finished reached queue last state) known) (with_step_for user (shard.Finish queue parts) (shard_reply.Finished state last reached) caught)
+        finished_keeps arrives known following =
+            let i = serving user caught in
+            let finish = finished_at following.some in
+            let inside = (serving_inside user caught there_caught following.some).1 in
+            let opened = known_opened queue (record { types = types; asked = asked }) known in
+            let later = known_after arrives (Register user types asked) (Finished reached queue last state) known in
+            following_shard final count legal_final i (shard.Finish queue parts) (shard_reply.Finished state last reached) caught opened later
+            (record {
+              here = λ q trace belongs inner.
+                  followed_step final q arrives trace (shard.Finish queue parts) (shard_reply.Finished state last reached) (opened.clients q) (opened.items q) (opened.registrations q) belongs.legal inner;
+              elsewhere = λ q trace not inner.
+                  let clients : Bool → Section → Option Client = λ same which.
+                  cond same (option_map (λ rows. record { rows = rows; count = count_of last }) (rows_of which (sections_of state))) (known.clients q which) in
+                  subst (λ same. IsFollowed final q (clients same) (opened.items q) (opened.registrations q) trace) (sym (other_queue i q queue finish.served inside not)) inner;
+            })
+            (λ answers within. within) there following
+
+        -- what the account of the queue says at the finish
+        opened_here : (known : Known) → queue.user ≡ user → Following final count legal_final (known_opened queue (record { types = types; asked = asked }) known) caught
+            → IsOpenedFor (record { types = types; asked = asked }) (account_over final queue (trace_at (serving user caught) caught.shards))
+        opened_here known own following =
+            let r : Registration = record { types = types; asked = asked } in
+            let here = ap (shard_of count) own ∙ sym (serving_is user caught there_caught) in
+            let at_shard = (following.followed queue).opened r (ap (λ same. cond same (Some r) (known.registrations queue)) (same_queue_itself queue)) in
+            subst (λ n. IsOpenedFor r (account_over final queue (trace_at n caught.shards))) here at_shard
+
+        -- and keeps what is promised of it
+        finished_is : (arrives : Bool) (known : Known) (before : History) → Registering queue before caught
+            → Following final count legal_final (known_opened queue (record { types = types; asked = asked }) known) caught
+            → TurnKeeps (commands final) arrives (Register user types asked) (Finished reached queue last state) (commands before.realm) known
+        finished_is arrives known before flow following =
+            let r : Registration = record { types = types; asked = asked } in
+            let i = serving user caught in
+            let trace = trace_at i caught.shards in
             let all = commands final in
             let earlier = commands before.realm in
-            let trace = trace_at i before.shards in
-            let reply = shard_reply.Empty reached in
-            let poll = polled_at user queue asked beat before reply there following.some in
-            let tells = empty_tells queue.user (account_of (changed_events all) queue trace) (position_of trace) user asked beat reached poll.answers in
-            let followed = followed_here user queue asked beat before reply there known tells.polling.own following in
-            let made = position_made i reached known before quiet.there following tells.reached_is in
-            let Gives : QueueId → ℕ → Type 0 = λ o m. (which : Section) → option_map_or (is_told which) (known.registrations o) false ≡ true
-            → is_taken arrives (Poll user queue asked beat) (known.clients o which) ≡ true
-            → HasView o.user which m earlier all (known.clients o which) in
-            let IsOf : QueueId → ℕ → Type 0 = λ o m. (r : Registration) → known.registrations o ≡ Some r → r.asked ≢ [] → IsActive o.user (prefix_of m all) in
-            let gives : Gives queue reached = λ which told takes.
-            let for = registered_for which (known.registrations queue) told in
-            empty_seen final count (0 + i) legal_final queue trace arrives user asked moment beat reached earlier made which (known.clients queue which)
-            (followed.has which) for.r (followed.opened for.r for.is) for.among for.covered takes poll.belongs in
-            let active : IsOf queue reached = λ r is some.
-            answered_active final count (0 + i) legal_final queue trace user asked moment beat reply reached poll.belongs refl r (followed.opened r is) some in
+            let opened = known_opened queue r known in
+            let finish = finished_at following.some in
+            let tells = finished_tells queue.user (account_of (changed_events all) queue trace) (position_of trace) (viewed all) parts state last reached finish.answers in
+            let own = flow.own following.some in
+            let recent = flow.recent following.some in
+            let reached_is = tells.reached_is in
+            let same = ap length flow.quiet.same in
+            let made_now = position_made i reached opened caught there_caught following reached_is in
+            let made : reached ≤ length earlier = omega arith in
+            let opened_for = opened_here known own following in
+            let seen = finished_seen final count (0 + i) legal_final queue trace parts state last reached finish.belongs r opened_for in
+            let active = finished_active final count (0 + i) legal_final queue trace parts state last reached finish.belongs r opened_for in
+            let Gives : QueueId → ℕ → Type 0 = λ o m. (which : Section) → option_map_or (is_told which) (Some r) false ≡ true
+            → HasView o.user which m earlier all (option_map (λ rows. record { rows = rows; count = count_of last }) (rows_of which (sections_of state))) in
+            let IsOf : QueueId → ℕ → Type 0 = λ o m. asked ≢ [] → IsActive o.user (prefix_of m all) in
+            let gives : Gives queue reached = λ which tells.
+            let for = registered_for which (Some r) tells in
+            let it : r ≡ for.r = cc in
+            let rows_are = seen which (ap (λ (x : Registration). is_among x.asked which) it ∙ for.among) (ap (λ (x : Registration). covers x.types which) it ∙ for.covered) in
+            record { made = made; has = record { rows = section_of which (view_after queue.user reached all); count = count_of last }; is = ap (option_map (λ rows. record { rows = rows; count = count_of last })) rows_are; seen = refl } in
             record {
-              line = tt;
-              followed = λ q n is which told takes. (at_same q queue n reached Gives gives (same_queue q queue) refl is).1 which told takes;
-              active = λ q n is registration known_is some. (at_same q queue n reached IsOf active (same_queue q queue) refl is).1 registration known_is some;
-            };
-      }
+              line = record {
+                recent = record { own = own; made = made; recent = omega arith };
+                fresh = λ which among covered. subst (λ reader. IsSeen reader which reached all (rows_of which (sections_of state))) own (seen which among covered);
+              };
+              followed = λ q n is which told takes.
+                  let moved = at_same q queue n reached Gives gives (same_queue q queue) refl is in
+                  finished_gives q n which moved.0 moved.1 told;
+              active = λ q n is registration known_is some.
+                  let moved = at_same q queue n reached IsOf active (same_queue q queue) refl is in
+                  finished_of q n registration moved.0 moved.1 known_is some;
+            }
+          where
+            finished_gives : (q : QueueId) (n : ℕ) (which : Section) → same_queue q queue ≡ true
+                → ((which : Section) → option_map_or (is_told which) (Some (record { types = types; asked = asked })) false ≡ true
+                → HasView q.user which n (commands before.realm) (commands final) (option_map (λ rows. record { rows = rows; count = count_of last }) (rows_of which (sections_of state))))
+                → option_map_or (is_told which) (cond (same_queue q queue) (Some (record { types = types; asked = asked })) (known.registrations q)) false ≡ true
+                → HasView q.user which n (commands before.realm) (commands final) (cond (same_queue q queue) (option_map (λ rows. record { rows = rows; count = count_of last }) (rows_of which (sections_of state))) (known.clients q which))
+            finished_gives q n which same gives told =
+                let r : Registration = record { types = types; asked = asked } in
+                let told_now = subst (λ s. option_map_or (is_told which) (cond s (Some r) (known.registrations q)) false ≡ true) same told in
+                subst (λ s. HasView q.user which n (commands before.realm) (commands final) (cond s (option_map (λ rows. record { rows = rows; count = count_of last }) (rows_of which (sections_of state))) (known.clients q which))) (sym same)
+                (gives which told_now)
 
-  -- each line that is played
-  pub turned : (step : Step) (outcome : Outcome) (before after : History) → Plays step outcome before after → WasThere final count after
-      → Turned step outcome before after
-  turned (Command actor command) (Committed number id) before after plays there =
-      subst (Turned (Command actor command) (Committed number id) before) (sym plays.3)
-      (committed_turn actor command number id plays.0 before (subst (WasThere final count) plays.3 there))
-  turned (Command actor command) (Refused why) before after plays there =
-      realm_turn (Command actor command) (Refused why) (realm.Commit actor moment command) (realm_reply.Refused why) before after refl refl plays there
-  turned NoticeAll (Noticed noticed) before after plays there =
-      realm_turn NoticeAll (Noticed noticed) realm.NoticeAll (realm_reply.Noticed noticed) before after refl refl plays there
-  turned (Push index) (Pushed reached) before after plays there = push_turn index reached before after plays there
-  turned (Register user types asked) (Finished reached queue last state) before after plays there = register_turn user types asked reached queue last state before after plays there
-  turned (Register user types asked) BadQueue before after plays there = lost_register_turn user types asked plays.0 before after plays.1 there
-  turned (Register user types asked) OpensSpent before after plays there =
-      serving_turn (Register user types asked) OpensSpent user (shard.Start user salt moment types asked) shard_reply.OpensSpent before after refl
-      (record { no_client = λ q which given. refl; no_items = λ q items. refl }) (λ answers within. within) plays there
-  turned (Register user types asked) TooManyQueues before after plays there =
-      serving_turn (Register user types asked) TooManyQueues user (shard.Start user salt moment types asked) shard_reply.TooManyQueues before after refl
-      (record { no_client = λ q which given. refl; no_items = λ q items. refl }) (λ answers within. within) plays there
-  turned (Register user types asked) FetchRefused before after plays there = refused_register_turn user types asked before after plays there
-  turned (Poll user queue asked beat) (Answered reached other items) before after plays there =
-      subst (λ o. Turned (Poll user queue asked beat) (Answered reached o items) before after) (sym plays.0)
-      (subst (Turned (Poll user queue asked beat) (Answered reached queue items) before) (sym plays.1) (answered_turn user queue asked beat reached items before (subst (WasThere final count) plays.1 there)))
-  turned (Poll user queue asked beat) (Empty reached) before after plays there =
-      subst (Turned (Poll user queue asked beat) (Empty reached) before) (sym plays) (empty_turn user queue asked beat reached before (subst (WasThere final count) plays there))
-  turned (Poll user queue asked beat) BadQueue before after plays there =
-      serving_turn (Poll user queue asked beat) BadQueue user (shard.Poll user queue asked moment beat) shard_reply.BadQueue before after refl
-      (record { no_client = λ q which given. refl; no_items = λ q items. refl }) (λ answers within. within) plays there
-  turned (Poll user queue asked beat) (NotSent greatest) before after plays there =
-      serving_turn (Poll user queue asked beat) (NotSent greatest) user (shard.Poll user queue asked moment beat) (shard_reply.NotSent greatest) before after refl
-      (record { no_client = λ q which given. refl; no_items = λ q items. refl }) (λ answers within. within) plays there
-  turned (Poll user queue asked beat) (Pruned newest) before after plays there =
-      serving_turn (Poll user queue asked beat) (Pruned newest) user (shard.Poll user queue asked moment beat) (shard_reply.Pruned newest) before after refl
-      (record { no_client = λ q which given. refl; no_items = λ q items. refl }) (λ answers within. within) plays there
-  turned (View user) (Viewed at state) before after plays there = view_turn user at state before after plays there
-  turned (View user) FetchRefused before after plays there =
-      quiet_turn (View user) FetchRefused before after refl (quiet_refused_fetch user all_sections before after plays there)
-  turned step outcome before after plays there = absurd plays
+            finished_of : (q : QueueId) (n : ℕ) (registration : Registration) → same_queue q queue ≡ true → (asked ≢ [] → IsActive q.user (prefix_of n (commands final)))
+                → cond (same_queue q queue) (Some (record { types = types; asked = asked })) (known.registrations q) ≡ Some registration → registration.asked ≢ []
+                → IsActive q.user (prefix_of n (commands final))
+            finished_of q n registration same active is some =
+                let r : Registration = record { types = types; asked = asked } in
+                let known_now = subst (λ s. cond s (Some r) (known.registrations q) ≡ Some registration) same is in
+                let it : r ≡ registration = cc in
+                active (λ none. some (sym (ap (λ (x : Registration). x.asked) it) ∙ none))
+
+      -- a line that registers
+      register_turn : (reached : ℕ) (queue : QueueId) (last : ℤ) (state : State) (before after : History)
+          → PlaysRegister moment user types asked queue (shard_reply.Finished state last reached) before after → WasThere final count after
+          → Turned (Register user types asked) (Finished reached queue last state) before after
+      register_turn reached queue last state before after plays there =
+          let there_finished = subst (WasThere final count) plays.finishes there in
+          let flow = registering queue (shard_reply.Finished state last reached) before after plays (there_caught reached queue last state plays.parts plays.caught there_finished) in
+          subst (Turned (Register user types asked) (Finished reached queue last state) before) (sym plays.finishes)
+          (record {
+            there = flow.quiet.there;
+            accepts = sym flow.quiet.same;
+            keeps = λ arrives known following. finished_keeps reached queue last state plays.parts plays.caught there_finished arrives known (flow.opens known following);
+            promised = λ arrives known following. finished_is reached queue last state plays.parts plays.caught there_finished arrives known before flow (flow.opens known following);
+          })
+
+      -- and one whose queue is gone by its finish
+      lost_register_turn : (queue : QueueId) (before after : History) → PlaysRegister moment user types asked queue shard_reply.BadQueue before after → WasThere final count after
+          → Turned (Register user types asked) BadQueue before after
+      lost_register_turn queue before after plays there =
+          let lost = with_step_for user (shard.Finish queue plays.parts) shard_reply.BadQueue plays.caught in
+          let finish = quiet_shard final count legal_final (serving user plays.caught) (shard.Finish queue plays.parts) shard_reply.BadQueue plays.caught
+          (record { no_client = λ q which given. refl; no_items = λ q items. refl }) (λ answers within. within) (subst (WasThere final count) plays.finishes there) in
+          let flow = registering queue shard_reply.BadQueue before after plays finish.there in
+          subst (Turned (Register user types asked) BadQueue before) (sym plays.finishes)
+          (quiet_turn (Register user types asked) BadQueue before lost refl (quiet_then final count legal_final before plays.caught lost flow.quiet finish))
+
+    module _ (user : UserId) (queue : QueueId) (asked : ℤ) (beat : Bool) (before : History) (reply : ShardReply)
+        (there : WasThere final count (with_step_for user (shard.Poll user queue asked moment beat) reply before)) where
+      -- the history before a poll, and what the poll tells
+      there_polled : WasThere final count before
+      there_polled = there_before_shard final count legal_final (serving user before) (shard.Poll user queue asked moment beat) reply before there
+
+      polled_at : 1 ≤ count → AnsweredAt final count (serving user before) (shard.Poll user queue asked moment beat) reply (trace_at (serving user before) before.shards)
+      polled_at some = answered_at final count legal_final (serving user before) (shard.Poll user queue asked moment beat) reply before there (serving_inside user before there_polled some).0
+
+      -- the queue of a user is in the trace of the shard that serves the user
+      queue_there : same_user queue.user user ≡ true → shard_of count queue.user ≡ serving user before
+      queue_there own = ap (shard_of count) (same_user_is queue.user user own) ∙ sym (serving_is user before there_polled)
+
+      followed_here : (known : Known) → same_user queue.user user ≡ true → Following final count legal_final known before
+          → FollowedOn final count legal_final known queue (trace_at (serving user before) before.shards)
+      followed_here known own following =
+          subst (λ n. FollowedOn final count legal_final known queue (trace_at n before.shards)) (queue_there own) (following.followed queue)
+
+    -- a poll that is answered, with items or with none
+    answered_turn : (user : UserId) (queue : QueueId) (asked : ℤ) (beat : Bool) (reached : ℕ) (items : List Item) (before : History)
+        → WasThere final count (with_step_for user (shard.Poll user queue asked moment beat) (shard_reply.Answer items reached) before)
+        → Turned (Poll user queue asked beat) (Answered reached queue items) before (with_step_for user (shard.Poll user queue asked moment beat) (shard_reply.Answer items reached) before)
+    answered_turn user queue asked beat reached items before there = record {
+      there = there_polled user queue asked beat before (shard_reply.Answer items reached) there;
+      accepts = refl;
+      keeps = λ arrives known following.
+          let i = serving user before in
+          let poll = polled_at user queue asked beat before (shard_reply.Answer items reached) there following.some in
+          let tells = answered_tells queue.user (account_of (changed_events (commands final)) queue (trace_at i before.shards)) (position_of (trace_at i before.shards)) user asked beat items reached poll.answers in
+          let here = queue_there user queue asked beat before (shard_reply.Answer items reached) there tells.polling.own in
+          let inside = (serving_inside user before (there_polled user queue asked beat before (shard_reply.Answer items reached) there) following.some).1 in
+          following_shard final count legal_final i (shard.Poll user queue asked moment beat) (shard_reply.Answer items reached) before known
+          (known_after arrives (Poll user queue asked beat) (Answered reached queue items) known)
+          (record {
+            here = λ q trace belongs inner.
+                followed_step final q arrives trace (shard.Poll user queue asked moment beat) (shard_reply.Answer items reached) (known.clients q) (known.items q) (known.registrations q) belongs.legal inner;
+            elsewhere = λ q trace not inner.
+                let clients : Bool → Section → Option Client = λ same which. cond same (option_map (may_take arrives (count_of asked) items) (known.clients q which)) (known.clients q which) in
+                subst (λ same. IsFollowed final q (clients same) (cond same items [] ++ known.items q) (known.registrations q) trace) (sym (other_queue i q queue here inside not)) inner;
+          })
+          (λ answers within. within) there following;
+      promised = λ arrives known following.
+          let i = serving user before in
+          let all = commands final in
+          let earlier = commands before.realm in
+          let trace = trace_at i before.shards in
+          let reply = shard_reply.Answer items reached in
+          let poll = polled_at user queue asked beat before reply there following.some in
+          let tells = answered_tells queue.user (account_of (changed_events all) queue trace) (position_of trace) user asked beat items reached poll.answers in
+          let followed = followed_here user queue asked beat before reply there known tells.polling.own following in
+          let made = position_made i reached known before (there_polled user queue asked beat before reply there) following tells.reached_is in
+          let Gives : QueueId → ℕ → Type 0 = λ o m. (which : Section) → option_map_or (is_told which) (known.registrations o) false ≡ true
+          → is_taken arrives (Poll user queue asked beat) (known.clients o which) ≡ true
+          → HasView o.user which m earlier all (option_map (may_take arrives (count_of asked) items) (known.clients o which)) in
+          let IsOf : QueueId → ℕ → Type 0 = λ o m. (r : Registration) → known.registrations o ≡ Some r → r.asked ≢ [] → IsActive o.user (prefix_of m all) in
+          let gives : Gives queue reached = λ which told takes.
+          let for = registered_for which (known.registrations queue) told in
+          answered_seen final count (0 + i) legal_final queue trace arrives user asked moment beat reached earlier made which (known.clients queue which)
+          (followed.has which) for.r (followed.opened for.r for.is) for.among for.covered takes items poll.belongs in
+          let active : IsOf queue reached = λ r is some.
+          answered_active final count (0 + i) legal_final queue trace user asked moment beat reply reached poll.belongs refl r (followed.opened r is) some in
+          record {
+            line = tt;
+            followed = λ q n is which told takes.
+                let moved = at_same q queue n reached Gives gives (same_queue q queue) refl is in
+                subst (λ same. HasView q.user which n earlier all (cond same (option_map (may_take arrives (count_of asked) items) (known.clients q which)) (known.clients q which))) (sym moved.0)
+                (moved.1 which told takes);
+            active = λ q n is registration known_is some. (at_same q queue n reached IsOf active (same_queue q queue) refl is).1 registration known_is some;
+          };
+    }
+
+    empty_turn : (user : UserId) (queue : QueueId) (asked : ℤ) (beat : Bool) (reached : ℕ) (before : History)
+        → WasThere final count (with_step_for user (shard.Poll user queue asked moment beat) (shard_reply.Empty reached) before)
+        → Turned (Poll user queue asked beat) (Empty reached) before (with_step_for user (shard.Poll user queue asked moment beat) (shard_reply.Empty reached) before)
+    empty_turn user queue asked beat reached before there =
+        let quiet = quiet_shard final count legal_final (serving user before) (shard.Poll user queue asked moment beat) (shard_reply.Empty reached) before
+        (record { no_client = λ q which given. refl; no_items = λ q items. refl }) (λ answers within. within) there in
+        record {
+          there = quiet.there;
+          accepts = refl;
+          keeps = λ arrives known following. quiet.keeps known following;
+          promised = λ arrives known following.
+              let i = serving user before in
+              let all = commands final in
+              let earlier = commands before.realm in
+              let trace = trace_at i before.shards in
+              let reply = shard_reply.Empty reached in
+              let poll = polled_at user queue asked beat before reply there following.some in
+              let tells = empty_tells queue.user (account_of (changed_events all) queue trace) (position_of trace) user asked beat reached poll.answers in
+              let followed = followed_here user queue asked beat before reply there known tells.polling.own following in
+              let made = position_made i reached known before quiet.there following tells.reached_is in
+              let Gives : QueueId → ℕ → Type 0 = λ o m. (which : Section) → option_map_or (is_told which) (known.registrations o) false ≡ true
+              → is_taken arrives (Poll user queue asked beat) (known.clients o which) ≡ true
+              → HasView o.user which m earlier all (known.clients o which) in
+              let IsOf : QueueId → ℕ → Type 0 = λ o m. (r : Registration) → known.registrations o ≡ Some r → r.asked ≢ [] → IsActive o.user (prefix_of m all) in
+              let gives : Gives queue reached = λ which told takes.
+              let for = registered_for which (known.registrations queue) told in
+              empty_seen final count (0 + i) legal_final queue trace arrives user asked moment beat reached earlier made which (known.clients queue which)
+              (followed.has which) for.r (followed.opened for.r for.is) for.among for.covered takes poll.belongs in
+              let active : IsOf queue reached = λ r is some.
+              answered_active final count (0 + i) legal_final queue trace user asked moment beat reply reached poll.belongs refl r (followed.opened r is) some in
+              record {
+                line = tt;
+                followed = λ q n is which told takes. (at_same q queue n reached Gives gives (same_queue q queue) refl is).1 which told takes;
+                active = λ q n is registration known_is some. (at_same q queue n reached IsOf active (same_queue q queue) refl is).1 registration known_is some;
+              };
+        }
+
+    -- each line that is played
+    pub turned : (step : Step) (outcome : Outcome) (before after : History) → GoesOn moment step outcome before after → WasThere final count after
+        → Turned step outcome before after
+    turned (Command actor command) (Committed number id) before after plays there =
+        subst (Turned (Command actor command) (Committed number id) before) (sym plays.3)
+        (committed_turn actor command number id plays.0 before (subst (WasThere final count) plays.3 there))
+    turned (Command actor command) (Refused why) before after plays there =
+        realm_turn (Command actor command) (Refused why) (realm.Commit actor moment command) (realm_reply.Refused why) before after refl refl plays there
+    turned (Shards many) (Sharded made) before after plays there =
+        quiet_end (Shards many) (Sharded made) before after before refl plays.1 (quiet_none final count legal_final before) there
+    turned NoticeAll (Noticed noticed) before after plays there =
+        realm_turn NoticeAll (Noticed noticed) realm.NoticeAll (realm_reply.Noticed noticed) before after refl refl plays there
+    turned (Push index) (Pushed reached) before after plays there = push_turn index reached before after plays there
+    turned (PushFrom index first) (Pushed reached) before after plays there =
+        quiet_end (PushFrom index first) (Pushed reached) before after _ refl plays.pushed (quiet_taken final count legal_final index first plays.notices reached before) there
+    turned (PushFrom index first) (Gap have from) before after plays there =
+        quiet_end (PushFrom index first) (Gap have from) before after _ refl plays.pushed (quiet_gap final count legal_final index first plays.notices have from before) there
+    turned (Register user types asked) (Finished reached queue last state) before after plays there = register_turn user types asked reached queue last state before after plays there
+    turned (Register user types asked) BadQueue before after plays there = lost_register_turn user types asked plays.0 before after plays.1 there
+    turned (Register user types asked) OpensSpent before after plays there =
+        serving_turn (Register user types asked) OpensSpent user (shard.Start user salt moment types asked) shard_reply.OpensSpent before after refl
+        (record { no_client = λ q which given. refl; no_items = λ q items. refl }) (λ answers within. within) plays there
+    turned (Register user types asked) TooManyQueues before after plays there =
+        serving_turn (Register user types asked) TooManyQueues user (shard.Start user salt moment types asked) shard_reply.TooManyQueues before after refl
+        (record { no_client = λ q which given. refl; no_items = λ q items. refl }) (λ answers within. within) plays there
+    turned (Register user types asked) FetchRefused before after plays there = refused_register_turn user types asked before after plays there
+    turned (Poll user queue asked beat) (Answered reached other items) before after plays there =
+        subst (λ o. Turned (Poll user queue asked beat) (Answered reached o items) before after) (sym plays.0)
+        (subst (Turned (Poll user queue asked beat) (Answered reached queue items) before) (sym plays.1) (answered_turn user queue asked beat reached items before (subst (WasThere final count) plays.1 there)))
+    turned (Poll user queue asked beat) (Empty reached) before after plays there =
+        subst (Turned (Poll user queue asked beat) (Empty reached) before) (sym plays) (empty_turn user queue asked beat reached before (subst (WasThere final count) plays there))
+    turned (Poll user queue asked beat) BadQueue before after plays there =
+        serving_turn (Poll user queue asked beat) BadQueue user (shard.Poll user queue asked moment beat) shard_reply.BadQueue before after refl
+        (record { no_client = λ q which given. refl; no_items = λ q items. refl }) (λ answers within. within) plays there
+    turned (Poll user queue asked beat) (NotSent greatest) before after plays there =
+        serving_turn (Poll user queue asked beat) (NotSent greatest) user (shard.Poll user queue asked moment beat) (shard_reply.NotSent greatest) before after refl
+        (record { no_client = λ q which given. refl; no_items = λ q items. refl }) (λ answers within. within) plays there
+    turned (Poll user queue asked beat) (Pruned newest) before after plays there =
+        serving_turn (Poll user queue asked beat) (Pruned newest) user (shard.Poll user queue asked moment beat) (shard_reply.Pruned newest) before after refl
+        (record { no_client = λ q which given. refl; no_items = λ q items. refl }) (λ answers within. within) plays there
+    turned (DeleteQueue user queue) Deleted before after plays there =
+        serving_turn (DeleteQueue user queue) Deleted user (shard.Delete user queue) shard_reply.Deleted before after refl
+        (record { no_client = λ q which given. refl; no_items = λ q items. refl }) (λ answers within. within) plays there
+    turned (DeleteQueue user queue) BadQueue before after plays there =
+        serving_turn (DeleteQueue user queue) BadQueue user (shard.Delete user queue) shard_reply.BadQueue before after refl
+        (record { no_client = λ q which given. refl; no_items = λ q items. refl }) (λ answers within. within) plays there
+    turned (Tick at) (Ticked queues) before after plays there =
+        quiet_end (Tick at) (Ticked queues) before after _ refl plays.ticked (quiet_ticks final count legal_final (max moment at) 0 plays.expired before) there
+    turned (Locate index) (At position) before after plays there =
+        quiet_end (Locate index) (At position) before after _ refl plays
+        (quiet_shard final count legal_final index shard.Locate (shard_reply.At position) before
+        (record { no_client = λ q which given. refl; no_items = λ q items. refl }) (λ answers within. within))
+        there
+    turned (View user) (Viewed at state) before after plays there = view_turn user at state before after plays there
+    turned (View user) FetchRefused before after plays there =
+        quiet_turn (View user) FetchRefused before after refl (quiet_refused_fetch user all_sections before after plays there)
+    turned step outcome before after plays there = absurd plays

@@ -51,46 +51,54 @@ end_user_is user (suc k) [] = refl
 end_user_is user (suc k) (notice ∷ list) = end_user_is user k list
 
 module _ (all : List Accepted) where
-  -- a queue after a push of the notices of the next n commits, past those up to a place
-  abbrev pushed_account : List Accepted → ℕ → ℕ → QueueId → Account → Account
-  pushed_account made n place queue a =
+  -- a queue after a push of the notices of n commits from the first on, past those up to a place
+  abbrev pushed_account : List Accepted → ℕ → ℕ → ℕ → QueueId → Account → Account
+  pushed_account made first n place queue a =
       if is_held a
-      then after_push (ends_among queue.user (drop (place + 1 - (place + 1)) (ends_from made (place + 1) n)))
-      (received a.types (events_since queue.user place (prefix_of (max place (place + 1 + n - 1)) all))) a
+      then after_push (ends_among queue.user (drop (place + 1 - first) (ends_from made first n)))
+      (received a.types (events_since queue.user place (prefix_of (max place (first + n - 1)) all))) a
       else a
 
-  abbrev pushed : List Accepted → ℕ → ℕ → TraceState → TraceState
-  pushed made n place state = record {
-    position = max place (place + 1 + n - 1);
+  abbrev pushed : List Accepted → ℕ → ℕ → ℕ → TraceState → TraceState
+  pushed made first n place state = record {
+    position = max place (first + n - 1);
     opened = state.opened;
-    account = λ queue. pushed_account made n place queue (state.account queue);
+    account = λ queue. pushed_account made first n place queue (state.account queue);
   }
 
-  push_is : (made : List Accepted) (place : ℕ) (notices : List Notice) (reached : ℕ) (state : TraceState)
-      → state.position ≡ place → AreNotices made (place + 1) notices → reached ≡ max place (place + 1 + length notices - 1)
-      → state_after (changed_events all) (shard.Push (place + 1) notices) (shard_reply.Pushed reached) state ≡ pushed made (length notices) place state
-  push_is made place notices reached state stands are reached_is = λ i. record {
+  push_is : (made : List Accepted) (first : ℕ) (notices : List Notice) (reached : ℕ) (state : TraceState)
+      → AreNotices made first notices → reached ≡ max state.position (first + length notices - 1)
+      → state_after (changed_events all) (shard.Push first notices) (shard_reply.Pushed reached) state ≡ pushed made first (length notices) state.position state
+  push_is made first notices reached state are reached_is = λ i. record {
     position = reached_is i;
     opened = state.opened;
     account = λ queue.
         if is_held (state.account queue)
-        then after_push (ends_is queue i) (received (state.account queue).types (changed_events all queue.user (stands i) (place + 1) notices)) (state.account queue)
+        then after_push (ends_is queue i) (received (state.account queue).types (changed_events all queue.user state.position first notices)) (state.account queue)
         else state.account queue;
   }
     where
-      ends_is : (queue : QueueId) → end_user queue.user (new_notices state.position (place + 1) notices)
-          ≡ ends_among queue.user (drop (place + 1 - (place + 1)) (ends_from made (place + 1) (length notices)))
+      ends_is : (queue : QueueId) → end_user queue.user (new_notices state.position first notices)
+          ≡ ends_among queue.user (drop (state.position + 1 - first) (ends_from made first (length notices)))
       ends_is queue =
-          ap (λ n. end_user queue.user (new_notices n (place + 1) notices)) stands
-          ∙ end_user_is queue.user (place + 1 - (place + 1)) notices
-          ∙ ap (λ list. ends_among queue.user (drop (place + 1 - (place + 1)) list)) (ends_are made (place + 1) notices are)
+          end_user_is queue.user (state.position + 1 - first) notices
+          ∙ ap (λ list. ends_among queue.user (drop (state.position + 1 - first) list)) (ends_are made first notices are)
 
-  -- as many of the announced notices as are handed out at once are taken and pushed
+  -- as many of the announced notices from the first on as are handed out at once
+  abbrev pub taken : ℕ → Standing → ℕ
+  taken first before = min max_taken (before.announced + 1 - first)
+
+  -- where a shard stands once they are pushed
+  abbrev pub taken_up_to : ℕ → ℕ → Standing → ℕ
+  taken_up_to index first before = max (shard_state all index before).position (first + taken first before - 1)
+
+  -- they are taken and pushed
+  abbrev pub with_taken : ℕ → ℕ → Standing → Standing
+  with_taken index first before =
+      with_change index (pushed before.commands first (taken first before) (shard_state all index before).position) before
+
   abbrev one_round : ℕ → Standing → Standing
-  one_round index before =
-      with_change index
-      (pushed before.commands (min max_taken (before.announced + 1 - ((shard_state all index before).position + 1))) (shard_state all index before).position)
-      before
+  one_round index before = with_taken index ((shard_state all index before).position + 1) before
 
   -- rounds up to what is needed, no more than these
   abbrev pub pushed_up : ℕ → ℕ → ℕ → Standing → Standing
@@ -122,6 +130,41 @@ module _ (final : List RealmStep) (count : ℕ) (legal_final : IsLegalRealm fina
       ap (λ (test : Bool). if test then pushed_up (commands final) rounds index need (one_round (commands final) index (stands_at before)) else stands_at before)
       (le-ltb (shard_state (commands final) index (stands_at before)).position need (omega arith))
 
+  -- notices that were taken and pushed
+  pub record Takes (index first : ℕ) (reached : ℕ) (before after : History) : Type 0 where
+    pub due : first ≤ (shard_state (commands final) index (stands_at before)).position + 1
+    pub reached_is : reached ≡ taken_up_to (commands final) index first (stands_at before)
+    pub standing : stands_at after ≡ with_taken (commands final) index first (stands_at before)
+
+  pub takes : (index first : ℕ) (notices : List Notice) (reached : ℕ) (before : History) → index < length before.shards
+      → WasThere final count (with_shard_step index (shard.Push first notices) (shard_reply.Pushed reached) (with_realm_step (realm.Take first) (realm_reply.Notices first notices) before))
+      → Takes index first reached before (with_shard_step index (shard.Push first notices) (shard_reply.Pushed reached) (with_realm_step (realm.Take first) (realm_reply.Notices first notices) before))
+  takes index first notices reached before within there =
+      let all = commands final in
+      let input = shard.Push first notices in
+      let reply = shard_reply.Pushed reached in
+      let asked = with_realm_step (realm.Take first) (realm_reply.Notices first notices) before in
+      let asked_there = there_before_shard final count legal_final index input reply asked there in
+      let are = asked_there.legal.0.1 in
+      let length_is = asked_there.legal.0.2 in
+      let answers = (answered_at final count legal_final index input reply asked there within).answers in
+      let tells = pushed_tells (shard_account (changed_events all) (trace_at index before.shards)) (viewed all) first notices reached answers in
+      let due = tells.0 in
+      let tells_is = tells.1 in
+      let here = position_is all index before in
+      let place = (shard_state all index (stands_at before)).position in
+      let reached_now : reached ≡ max place (first + length notices - 1) = tells_is ∙ ap (λ (n : ℕ). max n (first + length notices - 1)) (sym here) in
+      record {
+        due = omega arith;
+        reached_is = reached_now ∙ ap (λ (n : ℕ). max place (first + n - 1)) length_is;
+        standing = standing_after all index input reply asked
+            ∙ ap (λ (list : List TraceState). record (stands_at before) { states = list })
+            (changed_at-same (changed_events all) index (state_after (changed_events all) input reply)
+            (pushed all (commands before.realm) first (taken all first (stands_at before)) place) (stands_at before).states
+            (push_is all (commands before.realm) first notices reached (shard_state all index (stands_at before)) are reached_now
+            ∙ ap (λ (n : ℕ). pushed all (commands before.realm) first n place (shard_state all index (stands_at before))) length_is));
+      }
+
   -- by induction on the rounds: each push ends no further than what was announced
   pub rounds_push : (most index need have : ℕ) (rounds : List Round) (before : History) (reached : ℕ) (after : History)
       → TakesAndPushes index need have rounds before reached after → WasThere final count after → index < length before.shards
@@ -143,30 +186,17 @@ module _ (final : List RealmStep) (count : ℕ) (legal_final : IsLegalRealm fina
       let input = shard.Push (have + 1) round.notices in
       let reply = shard_reply.Pushed round.position in
       let step : ShardStep = record { input = input; reply = reply } in
-      let taken = with_realm_step (realm.Take (have + 1)) (realm_reply.Notices (have + 1) round.notices) before in
-      let pushes = with_shard_step index input reply taken in
+      let pushes = with_shard_step index input reply (with_realm_step (realm.Take (have + 1)) (realm_reply.Notices (have + 1) round.notices) before) in
       let lower = made.0 in
       let pushed_there = (quiet_pushes final count legal_final index need round.position rounds pushes reached after made.1 there).there in
-      let taken_there = there_before_shard final count legal_final index input reply taken pushed_there in
-      let length_is = taken_there.legal.0.2 in
-      let are = taken_there.legal.0.1 in
-      let answers = (answered_at final count legal_final index input reply taken pushed_there within).answers in
-      let tells = pushed_tells (shard_account (changed_events all) (trace_at index before.shards)) (viewed all) (have + 1) round.notices round.position answers in
-      let tells_is = tells.1 in
-      let position_now : round.position ≡ max have (have + 1 + length round.notices - 1) = omega arith in
+      let round_is = takes index (have + 1) round.notices round.position before within pushed_there in
+      let position_now = round_is.reached_is in
       let longer = length-with_step_at index step before.shards in
-      let rest = rounds_push most index need round.position rounds pushes reached after made.1 there (omega arith) told (ap position_of (trace_at-same index step before.shards within)) (omega arith) in
       let here = position_is all index before in
-      let place_is : (shard_state all index (stands_at before)).position ≡ have = here ∙ stands in
-      let states = (stands_at before).states in
+      let rest = rounds_push most index need round.position rounds pushes reached after made.1 there (omega arith) told (ap position_of (trace_at-same index step before.shards within)) (omega arith) in
+      let place_is : have + 1 ≡ (shard_state all index (stands_at before)).position + 1 = omega arith in
       let once : stands_at pushes ≡ one_round all index (stands_at before) =
-      standing_after all index input reply taken
-      ∙ ap (λ (list : List TraceState). record (stands_at before) { states = list })
-      (changed_at-same (changed_events all) index (state_after (changed_events all) input reply)
-      (pushed all (commands before.realm) (min max_taken (announced_count before.realm + 1 - ((shard_state all index (stands_at before)).position + 1))) (shard_state all index (stands_at before)).position) states
-      (push_is all (commands before.realm) have round.notices round.position (shard_state all index (stands_at before)) place_is are position_now
-      ∙ ap (λ (n : ℕ). pushed all (commands before.realm) n have (shard_state all index (stands_at before))) length_is
-      ∙ ap (λ (place : ℕ). pushed all (commands before.realm) (min max_taken (announced_count before.realm + 1 - (place + 1))) place (shard_state all index (stands_at before))) (sym place_is))) in
+      round_is.standing ∙ ap (λ (first : ℕ). with_taken all index first (stands_at before)) place_is in
       record {
         reached_is = rest.reached_is;
         standing = rest.standing

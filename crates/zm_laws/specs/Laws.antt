@@ -1,5 +1,5 @@
 -- What holds of every script.
-use Rattle.std.specs.Prelude.{◌≡◌, ℕ, ◌≤◌, List, option_map, map}
+use Rattle.std.specs.Prelude.{◌≡◌, ℕ, List, option_map, map}
 use Rattle.ev_rows.specs.Rows.{Table}
 use Rattle.ev_types.specs.declared.state.State.{State}
 use Rattle.zw_traces.specs.Histories.{History, IsLegalHistory}
@@ -9,11 +9,11 @@ use Rattle.zm_text.specs.Playing.{Turn, IsPlayed}
 use Rattle.zm_text.specs.Promises.{Promises}
 use Rattle.zm_text.specs.Texts.{HasText}
 
--- the promises hold of whatever is played in a legal history over at least one shard
+-- the promises hold of whatever is played in a legal history
 abbrev pub PromisesHold : Type 0
 PromisesHold =
-    (shards : ℕ) (lines : List (List ℕ)) (turns : List Turn) (history : History) →
-    1 ≤ shards → IsPlayed shards lines turns history → IsLegalHistory history → Promises turns
+    (lines : List (List ℕ)) (turns : List Turn) (history : History) →
+    IsPlayed lines turns history → IsLegalHistory history → Promises turns
 
 -- a table without room for more rows
 abbrev pub full_table : {K V : Type 0} → Table K V → Table K V
@@ -43,14 +43,11 @@ full_turn turn = record { step = turn.step; outcome = full_outcome turn.outcome 
 -- a script has one run: its turns are the same but for the room that the lists of states have
 abbrev pub OneRun : Type 0
 OneRun =
-    (shards : ℕ) (lines : List (List ℕ)) (turns others : List Turn) (history other : History) →
-    1 ≤ shards →
-    IsPlayed shards lines turns history → IsLegalHistory history →
-    IsPlayed shards lines others other → IsLegalHistory other →
+    (lines : List (List ℕ)) (turns others : List Turn) (history other : History) →
+    IsPlayed lines turns history → IsLegalHistory history →
+    IsPlayed lines others other → IsLegalHistory other →
     map full_turn turns ≡ map full_turn others
 
 -- a script has one text
 abbrev pub OneText : Type 0
-OneText =
-    (shards : ℕ) (lines : List (List ℕ)) (a b : List ℕ) →
-    1 ≤ shards → HasText shards lines a → HasText shards lines b → a ≡ b
+OneText = (lines : List (List ℕ)) (a b : List ℕ) → HasText lines a → HasText lines b → a ≡ b

@@ -8,7 +8,6 @@ use Rattle.ev_types.specs.declared.kind.Types.{Types}
 use Rattle.ev_types.specs.declared.section.Section.{Section}
 use Rattle.ev_types.specs.Sections.{SomeSections, sections_of}
 use Rattle.ev_types.specs.OneSection.{rows_of}
-use Rattle.zr_types.specs.declared.command.Command.{Command as Change}
 use Rattle.zr_types.specs.declared.command.Committed.{Committed as CommitReply}
 use Rattle.zw_traces.specs.declared.realm.RealmInput.TheVariants as realm
 use Rattle.zw_traces.specs.declared.realm.RealmReply.TheVariants as realm_reply

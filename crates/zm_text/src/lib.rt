@@ -3,4 +3,4 @@
 
 mod outcome;
 
-pub use outcome::{MOMENT, Outcome, SALT};
+pub use outcome::{Outcome, SALT};

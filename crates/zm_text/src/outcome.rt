@@ -1,7 +1,7 @@
 //! What is printed for a step of a script.
 
-ghost use Rattle.std.specs.Prelude.{◌≡◌, ◌++◌, IfOk, IfSome, OnErr, OnOk};
-ghost use Rattle.zm_text.specs.Outcomes.{and_then, committed_text, line_of, refusal_text, text_of_outcome, with_body};
+ghost use Rattle.std.specs.Prelude.{◌≡◌, ◌++◌, ◌∷◌, IfOk, IfSome, OnErr, OnOk};
+ghost use Rattle.zm_text.specs.Outcomes.{and_then, committed_text, line_of, queue_word, refusal_text, text_of_outcome, ticked_text, with_body};
 
 use ev_base::{Listed, NoMemory, QueueId};
 use ev_types::{Item, State};
@@ -95,8 +95,12 @@ impl Outcome {
         match self {
             Outcome::Committed { number, id } => committed_line(alloc, *number, *id),
             Outcome::Refused(why) => text_line(alloc, refusal_words(*why)),
+            Outcome::Sharded { count } => word_line(alloc, "shards", count),
             Outcome::Noticed { count } => word_line(alloc, "noticed", count),
             Outcome::Pushed { position } => word_line(alloc, "pushed", position),
+            Outcome::Gap { have, first } => {
+                word_line(alloc, "gap", &format_args!("{have} {first}"))
+            }
             Outcome::Finished {
                 reached,
                 queue,
@@ -121,6 +125,9 @@ impl Outcome {
             Outcome::BadQueue => text_line(alloc, "bad_queue"),
             Outcome::NotSent { greatest } => word_line(alloc, "not_sent", greatest),
             Outcome::Pruned { newest } => word_line(alloc, "pruned", newest),
+            Outcome::Deleted => text_line(alloc, "deleted"),
+            Outcome::Ticked { queues } => ticked_line(alloc, queues.as_slice()),
+            Outcome::At { position } => word_line(alloc, "at", position),
             Outcome::Viewed { commits, state } => {
                 let body = write_state(alloc, state)?;
                 body_line(alloc, "view", *commits, &body)
@@ -154,6 +161,25 @@ fn committed_line(alloc: Global, number: u64, id: Option<u32>) -> Result<Vec<u8>
         None => word_line(alloc, "committed", &number),
         Some(id) => word_line(alloc, "committed", &format_args!("{number} {id}")),
     }
+}
+
+fn ticked_line(alloc: Global, queues: &[QueueId]) -> Result<Vec<u8>, NoMemory>
+    ensures { IfOk result (λ line. line.items ≡ ticked_text queues.now) }
+{
+    let mut line = word_line(alloc, "ticked", &queues.len())?;
+    for queue in queues {
+        add_queue(alloc, *queue, &mut line)?;
+    }
+    Ok(line)
+}
+
+// Appends a space, and the queue's user and number.
+fn add_queue(alloc: Global, queue: QueueId, line: &mut Vec<u8>) -> Result<(), NoMemory>
+    ensures { IfOk result (λ _. line.new.items ≡ line.old.items ++ 32 ∷ queue_word queue) }
+{
+    let word = format!(in alloc; " {}.{}", queue.user, queue.number)?;
+    line.extend_from_slice(word.as_bytes())?;
+    Ok(())
 }
 
 fn body_line(alloc: Global, word: &str, reached: u64, body: &[u8]) -> Result<Vec<u8>, NoMemory>

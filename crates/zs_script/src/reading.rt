@@ -64,6 +64,12 @@ pub fn steps_may_be_played()
         → Spells setting line step → MayPlay setting.shards step }
 {}
 
+/// Only the first step says how many shards there are.
+pub fn only_first_steps_make_shards()
+    ensures { (setting : Setting) (line : List ℕ) (count : ℕ)
+        → Spells setting line (Step.Shards count) → IsTrue setting.is_first }
+{}
+
 /// Lines spell one list of steps at most.
 pub fn one_list_of_steps()
     ensures { (lines : List (List ℕ)) (a b : List Step)
