@@ -2,9 +2,10 @@
 use Rattle.std.proofs.Common.{◌≡◌, ℕ, zero, suc, ◌+◌, ◌<◌, Bool, true, false, cond, not, ◌&&◌, ◌||◌, List, [], ◌∷◌, ◌++◌, length, map, filter, flat_map, slice_get, get_or, Option, Some, refl, ap, sym, subst, ◌∙◌, arith}
 use Rattle.std.proofs.lemmas.Bool.{false≢true}
 use Rattle.std.proofs.lemmas.List.Elements.{filter-append}
-use Rattle.std.specs.List.{cons_option, filter_map}
+use Rattle.std.specs.List.{cons_option, filter_map, list_any}
 use Rattle.std.specs.Option.{unwrap_or}
 use Rattle.std.proofs.lemmas.List.Concat.{flat_map-cons}
+use Rattle.std.specs.Map.{keys_of}
 use Rattle.std.specs.Map.Calls.{RetainsPairs}
 use Rattle.indexmap.specs.IndexMap.{set_value_at}
 use Rattle.ev_rows.specs.Rows.{only_if}
@@ -18,7 +19,7 @@ use Rattle.ev_types.specs.Feeders.{kind_of, receives}
 use Rattle.ev_types.specs.OneSection.{received}
 use Rattle.zw_traces.specs.Account.{Account, end_user, is_due, is_over, same_user, with_events}
 use Rattle.q_shard.specs.ShardInputs.{AreNumbered}
-use Rattle.q_shard.specs.HeldQueues.{HeldQueue, accounts_of, expiries_in, expiry_in, heard_events, settled_entry, stays_of}
+use Rattle.q_shard.specs.HeldQueues.{AreEnded, HeldQueue, accounts_of, expiries_in, expiry_in, settled_entry, stays_of}
 
 -- the first entries of a list changed, and the others as they were
 module _ {K X : Type 0} (change : K × X → K × X) where
@@ -40,6 +41,11 @@ module _ {K X : Type 0} (change : K × X → K × X) where
   changed_all [] = refl
   changed_all (entry ∷ entries) = ap (λ rest. change entry ∷ rest) (changed_all entries)
 
+  pub changed_to_keys : ((entry : K × X) → (change entry).0 ≡ entry.0) → (count : ℕ) (entries : List (K × X)) → keys_of (changed_to count entries) ≡ keys_of entries
+  changed_to_keys same zero entries = refl
+  changed_to_keys same (suc count) [] = refl
+  changed_to_keys same (suc count) (entry ∷ entries) = λ i. same entry i ∷ changed_to_keys same count entries i
+
 -- a write that leaves the account
 pub set_account : (entries : List (QueueId × HeldQueue)) (at : ℕ) (k : QueueId) (v w : HeldQueue) → slice_get entries at ≡ Some (k, v) → w.account ≡ v.account
     → accounts_of (set_value_at entries at w) ≡ accounts_of entries
@@ -51,29 +57,29 @@ set_account (entry ∷ entries) (suc at) k v w found same =
     ap (λ (rest : List (QueueId × Account)). (entry.0, entry.1.account) ∷ rest) (set_account entries at k v w found same)
 
 -- what a push leaves of the queues, where each is asked in turn
-module _ {F : Type 0} (T : F → QueueId → HeldQueue → Bool → HeldQueue → F → Type 0) (notices : List Notice) (f : F)
+module _ {F : Type 0} (T : F → QueueId → HeldQueue → Bool → HeldQueue → F → Type 0) (users : List UserId) (notices : List Notice) (ended : AreEnded users notices) (f : F)
     (says : (k : QueueId) (v : HeldQueue) (b : Bool) (w : HeldQueue) (g : F) → T f k v b w g
-    → (b ≡ not (end_user k.user notices || is_over (with_events v.staged v.account))) × (b ≡ true → w.account ≡ with_events v.staged v.account) × (g ≡ f)) where
+    → (b ≡ not (list_any (same_user k.user) users || is_over v.staged)) × (b ≡ true → w.account ≡ v.staged) × (g ≡ f)) where
   pub settled_entry-RetainsPairs : (entries kept : List (QueueId × HeldQueue)) → RetainsPairs T f entries kept → accounts_of kept ≡ filter_map (settled_entry notices) entries
   settled_entry-RetainsPairs [] kept ran = ap accounts_of ran
   settled_entry-RetainsPairs (entry ∷ entries) kept ran =
       let told = says entry.0 entry.1 ran.0 ran.1 ran.2 ran.4 in
       let rest = settled_entry-RetainsPairs entries ran.3 (subst (λ g. RetainsPairs T g entries ran.3) told.2 ran.5) in
-      ap accounts_of ran.6 ∙ go ran.0 told.0 told.1 rest
+      ap accounts_of ran.6 ∙ go ran.0 (told.0 ∙ ap (λ (b : Bool). not (b || is_over held)) (ended entry.0.user)) told.1 rest
     where
-      b : Account
-      b = with_events entry.1.staged entry.1.account
+      held : Account
+      held = entry.1.staged
 
       ends : Bool
-      ends = end_user entry.0.user notices || is_over b
+      ends = end_user entry.0.user notices || is_over held
 
-      go : (lives : Bool) → lives ≡ not ends → (lives ≡ true → ran.1.account ≡ b) → accounts_of ran.3 ≡ filter_map (settled_entry notices) entries
-          → accounts_of (cond lives ((entry.0, ran.1) ∷ ran.3) ran.3) ≡ cons_option (only_if (not ends) (Some (entry.0, b))) (filter_map (settled_entry notices) entries)
+      go : (lives : Bool) → lives ≡ not ends → (lives ≡ true → ran.1.account ≡ held) → accounts_of ran.3 ≡ filter_map (settled_entry notices) entries
+          → accounts_of (cond lives ((entry.0, ran.1) ∷ ran.3) ran.3) ≡ cons_option (only_if (not ends) (Some (entry.0, held))) (filter_map (settled_entry notices) entries)
       go true is account rest =
-          ap (λ (a : Account). (entry.0, a) ∷ accounts_of ran.3) (account refl) ∙ ap (λ (list : List (QueueId × Account)). (entry.0, b) ∷ list) rest
-          ∙ ap (λ (test : Bool). cons_option (only_if test (Some (entry.0, b))) (filter_map (settled_entry notices) entries)) is
+          ap (λ (a : Account). (entry.0, a) ∷ accounts_of ran.3) (account refl) ∙ ap (λ (list : List (QueueId × Account)). (entry.0, held) ∷ list) rest
+          ∙ ap (λ (test : Bool). cons_option (only_if test (Some (entry.0, held))) (filter_map (settled_entry notices) entries)) is
       go false is account rest =
-          rest ∙ ap (λ (test : Bool). cons_option (only_if test (Some (entry.0, b))) (filter_map (settled_entry notices) entries)) is
+          rest ∙ ap (λ (test : Bool). cons_option (only_if test (Some (entry.0, held))) (filter_map (settled_entry notices) entries)) is
 
 -- a test of accounts
 pub filter_accounts : (test : Account → Bool) (entries : List (QueueId × HeldQueue))
@@ -86,29 +92,6 @@ filter_accounts test (entry ∷ entries) = go (test entry.1.account) (filter_acc
         ≡ cond b ((entry.0, entry.1.account) ∷ filter (λ (entry : QueueId × Account). test entry.1) (accounts_of entries)) (filter (λ (entry : QueueId × Account). test entry.1) (accounts_of entries))
     go true rest = ap (λ (list : List (QueueId × Account)). (entry.0, entry.1.account) ∷ list) rest
     go false rest = rest
-
--- the events of one part more
-module _ (user : UserId) (types : Types) where
-  pub heard_more : (part : Part) (parts : List Part) → has_user user part.audience ≡ true → receives types (kind_of part.event) ≡ true
-      → received types (heard_events user (part ∷ parts)) ≡ part.event ∷ received types (heard_events user parts)
-  heard_more part parts hears takes =
-      ap (λ (b : Bool). received types (cons_option (only_if b (Some part.event)) (heard_events user parts))) hears
-      ∙ ap (λ (b : Bool). cond b (part.event ∷ received types (heard_events user parts)) (received types (heard_events user parts))) takes
-
-  pub heard_not : (part : Part) (parts : List Part) → (has_user user part.audience && receives types (kind_of part.event)) ≡ false
-      → received types (heard_events user (part ∷ parts)) ≡ received types (heard_events user parts)
-  heard_not part parts test = go (has_user user part.audience) (receives types (kind_of part.event)) refl test
-    where
-      go : (hears takes : Bool) → receives types (kind_of part.event) ≡ takes → (hears && takes) ≡ false
-          → received types (cons_option (only_if hears (Some part.event)) (heard_events user parts)) ≡ received types (heard_events user parts)
-      go false takes is test = refl
-      go true false is test = ap (λ (b : Bool). cond b (part.event ∷ received types (heard_events user parts)) (received types (heard_events user parts))) is
-      go true true is test = absurd (false≢true (sym test))
-
-  pub heard_notice : (notice : Notice) (notices : List Notice) → received types (flat_map (events_for user) (notice ∷ notices))
-      ≡ received types (heard_events user notice.parts) ++ received types (flat_map (events_for user) notices)
-  heard_notice notice notices =
-      ap (received types) (flat_map-cons (events_for user) notice notices) ∙ filter-append _ (events_for user notice) (flat_map (events_for user) notices)
 
 -- the number of a notice
 pub numbered-at : (first : ℕ) (notices : List Notice) (at : ℕ) (read : Notice) → AreNumbered first notices → read ≡ get_or notices at read

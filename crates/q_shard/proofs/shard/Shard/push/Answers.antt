@@ -27,7 +27,7 @@ invariant_of-self-2 c =
     let s : ShardState = record { position = c.self.inside.position; opens = c.self.inside.opens.entries; queues = accounts_of c.self.inside.queues.entries } in
     let new_is = c.new_notices-reached.ensures.notices ∙ ap (new_notices s.position c.args.first) c.as_slice.ensures in
     (push_any s c.self.inside.queues.entries c.args.first c.new_notices-reached.result.1 c.args.notices _ refl c.self.invariant
-    (c.settle_all.ensures ∙ ap (filter_map (settled_entry c.new_notices-reached.result.0.now)) c.in-Ok.ensures.ok
+    (c.settle_all.ensures c.new_notices-reached.result.0.now c.in-Ok.ensures ∙ ap (filter_map (settled_entry c.new_notices-reached.result.0.now)) c.in-Ok-2.ensures.ok
     ∙ ap (λ list. filter_map (settled_entry list) (map (staged_entry list) c.self.inside.queues.entries)) new_is)).held
 
 pub returns-clause-reply : goal.returns-clause-reply
@@ -43,5 +43,5 @@ returns-clause-shard c =
     let s : ShardState = record { position = c.self.inside.position; opens = c.self.inside.opens.entries; queues = accounts_of c.self.inside.queues.entries } in
     let new_is = c.new_notices-reached.ensures.notices ∙ ap (new_notices s.position c.args.first) c.as_slice.ensures in
     rw (← c.self.view_is) (push_any s c.self.inside.queues.entries c.args.first c.new_notices-reached.result.1 c.args.notices _ refl c.self.invariant
-    (c.settle_all.ensures ∙ ap (filter_map (settled_entry c.new_notices-reached.result.0.now)) c.in-Ok.ensures.ok
+    (c.settle_all.ensures c.new_notices-reached.result.0.now c.in-Ok.ensures ∙ ap (filter_map (settled_entry c.new_notices-reached.result.0.now)) c.in-Ok-2.ensures.ok
     ∙ ap (λ list. filter_map (settled_entry list) (map (staged_entry list) c.self.inside.queues.entries)) new_is)).seen_is
