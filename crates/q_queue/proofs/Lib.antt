@@ -1,4 +1,6 @@
+pub mod StandIns
 pub mod ItemLemmas
 pub mod AccountLemmas
+pub mod StagedLemmas
 pub mod PollLemmas
 pub mod KeptSteps

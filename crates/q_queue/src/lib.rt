@@ -5,5 +5,6 @@
 mod ids;
 mod items;
 mod queue;
+mod staging;
 
 pub use queue::{Pushed, Queue};
