@@ -8,8 +8,10 @@ use Rattle.ev_types.specs.declared.section.Section.{Section}
 use Rattle.zw_traces.specs.Account.{Account, above, after_finish, greatest_id, is_over, items_of, live, max_ids, max_kept, opened_account}
 use Rattle.ev_groups.specs.Items.{Numbered}
 use Rattle.zw_traces.specs.KeptAccount.{without_pruned}
-use Rattle.zw_traces.specs.IsKept.{AllIds, IsKept, IsOrdered}
-use Rattle.q_queue.proofs.ItemLemmas.{ids_weaker, ids_append, ids_nil, above_all, above_none, greatest_all, greatest_within}
+use Rattle.zw_traces.specs.IsKept.{IsKept, IsOrdered}
+use Rattle.ev_groups.proofs.Ids.{ids_nil}
+use Rattle.zw_traces.proofs.ItemLemmas.{above_all, above_none, greatest_all, greatest_within}
+use Rattle.zw_traces.proofs.KeptQueues.{ids_within, unpruned}
 
 pub opened_kept : (types : Types) (asked : List Section) (at moment : ℕ) → IsKept (opened_account types asked at moment)
 opened_kept types asked at moment = record {
@@ -26,25 +28,9 @@ opened_kept types asked at moment = record {
 }
 
 module _ (a : Account) (ordered : IsOrdered a) where
-  -- all items are above the pruned ones
-  unpruned : AllIds (λ id. a.pruned < id) (items_of a)
-  unpruned =
-      let low = ordered.pruned_within in
-      ids_append (λ id. a.pruned < id) a.cut_off a.open_items
-      (ids_weaker (λ id. (a.pruned < id) × (id ≤ a.given)) (λ id. a.pruned < id) (λ id is. is.0) a.cut_off ordered.cut_ids)
-      (ids_weaker (λ id. (a.given < id) × (id ≤ a.next)) (λ id. a.pruned < id) (λ id is. let more = is.0 in omega arith) a.open_items ordered.open_ids)
-
-  -- no id is beyond the next
-  pub ids_within : AllIds (λ id. id ≤ a.next) (items_of a)
-  ids_within =
-      let high = ordered.given_within in
-      ids_append (λ id. id ≤ a.next) a.cut_off a.open_items
-      (ids_weaker (λ id. (a.pruned < id) × (id ≤ a.given)) (λ id. id ≤ a.next) (λ id is. let most = is.1 in omega arith) a.cut_off ordered.cut_ids)
-      (ids_weaker (λ id. (a.given < id) × (id ≤ a.next)) (λ id. id ≤ a.next) (λ id is. is.1) a.open_items ordered.open_ids)
-
   -- all items count
   pub is_over_is : is_over a ≡ (nat_lt max_kept (length (items_of a)) || nat_lt max_ids a.next)
-  is_over_is = ap (λ (list : List Numbered). nat_lt max_kept (length list) || nat_lt max_ids a.next) (above_all a.pruned (items_of a) unpruned)
+  is_over_is = ap (λ (list : List Numbered). nat_lt max_kept (length list) || nat_lt max_ids a.next) (above_all a.pruned (items_of a) (unpruned a ordered))
 
   -- it is kept where it doesn't overrun
   pub kept_unless_over : is_over a ≡ false → IsKept a

@@ -11,7 +11,8 @@ use Rattle.zw_traces.specs.Account.{Account, Feeding, above, account_after, afte
 use Rattle.zw_traces.specs.KeptAccount.{kept_account, without_pruned}
 use Rattle.zw_traces.specs.IsKept.{IsKept}
 use Rattle.q_queue.specs.Polled.{polled}
-use Rattle.q_queue.proofs.ItemLemmas.{above_all, ids_weaker}
+use Rattle.ev_groups.proofs.Ids.{ids_weaker}
+use Rattle.zw_traces.proofs.ItemLemmas.{above_all}
 
 pub same_queue_itself : (queue : QueueId) → same_queue queue queue ≡ true
 same_queue_itself queue =

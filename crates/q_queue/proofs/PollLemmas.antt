@@ -10,16 +10,18 @@ use Rattle.ev_rows.proofs.RiseLemmas.{rise-nil, rise-cons}
 use Rattle.ev_types.specs.declared.event.Event.TheVariants.{Heartbeat}
 use Rattle.zw_traces.specs.declared.shard.ShardReply.{ShardReply}
 use Rattle.zw_traces.specs.Account.{Account, above, after_empty, after_handing_out, beats, count_of, greatest_id, is_beat, is_below_all, is_empty, is_live_phase, items_of, items_to_give, max_ids, max_kept, not_above, same_user, with_beat, with_events, with_moment}
-use Rattle.ev_groups.specs.Items.{Numbered}
+use Rattle.ev_groups.specs.Items.{AllIds, Numbered}
 use Rattle.zw_traces.specs.KeptAccount.{without_pruned}
 use Rattle.zw_traces.specs.ShardTrace.{AnswersItems, QueuePolls}
-use Rattle.zw_traces.specs.IsKept.{AllIds, IsKept}
+use Rattle.zw_traces.specs.IsKept.{IsKept}
 use Rattle.q_queue.specs.Polled.{after_heartbeat, heartbeat}
 use Rattle.q_queue.specs.QueueValue.{QueueValue}
 use Rattle.q_queue.specs.Stored.{IsStored, account_of, staged_of}
 use Rattle.q_queue.specs.declared.queue.Queue.TheInside.{Inside}
-use Rattle.q_queue.proofs.ItemLemmas.{ids_weaker, ids_nil, ids_cons, above_all, above_none, not_above_all, above_ids, not_above_ids, greatest_least, greatest_all, greatest_within, sorted-drop, ids_second, none_above}
-use Rattle.q_queue.proofs.AccountLemmas.{ids_within}
+use Rattle.ev_groups.proofs.Ids.{ids_weaker, ids_nil, ids_cons, ids_second}
+use Rattle.zw_traces.proofs.ItemLemmas.{above_all, above_none, not_above_all, above_ids, not_above_ids, greatest_least, greatest_all, greatest_within}
+use Rattle.zw_traces.proofs.KeptQueues.{ids_within}
+use Rattle.q_queue.proofs.ItemLemmas.{sorted-drop, none_above}
 
 no_events : (a : Account) → with_events [] a ≡ a
 no_events a = let same : a.next + 0 ≡ a.next = omega arith in λ i. record a { next = same i }

@@ -1,8 +1,10 @@
--- A queue with nothing staged, and what settling makes of it.
-use Rattle.std.proofs.Common.{◌≡◌, ℕ, ◌+◌, ◌-◌, ◌<◌, ◌≤◌, List, [], ◌++◌, length, take, drop, take-append-drop, append-nil, append_assoc, refl, ap, sym, subst, ◌∙◌, arith, length-append, length-drop, vec_capacity}
-use Rattle.std.proofs.lemmas.List.{take_all, take-append-le, drop-append-le}
-use Rattle.zw_traces.specs.Account.{Account, items_of}
+-- A queue with nothing staged, and with something.
+use Rattle.std.proofs.Common.{◌≡◌, ℕ, ◌+◌, ◌≤◌, List, [], ◌++◌, length, take, drop, append-nil, append_assoc, ap, sym, subst, ◌∙◌, arith, length-append, length-drop, length-take, vec_capacity}
+use Rattle.std.proofs.lemmas.List.{take_all}
 use Rattle.ev_groups.specs.Items.{Numbered}
+use Rattle.ev_types.specs.declared.event.Event.{Event}
+use Rattle.zw_traces.specs.Account.{Account, items_of, with_events}
+use Rattle.zw_traces.proofs.KeptQueues.{with_events_ordered}
 use Rattle.zw_traces.specs.IsKept.{IsKept, IsOrdered}
 use Rattle.q_queue.specs.QueueValue.{QueueValue}
 use Rattle.q_queue.specs.Stored.{IsStored, account_of, staged_of}
@@ -24,5 +26,18 @@ module _ (it : Inside) (stays : it.cut + it.staged.from ≡ length it.items.item
     room = omega (arith, stays, ap length none, room);
   }
 
-  pub nothing_value : (value : QueueValue) → record { account = account_of it; staged = staged_of it } ≡ value → value.staged ≡ value.account
-  nothing_value value view_is = ap (λ (q : QueueValue). q.staged) (sym view_is) ∙ nothing_is ∙ ap (λ (q : QueueValue). q.account) view_is
+-- how many items there are with the staged ones
+pub staged_length : (it : Inside) → IsStored it → length (items_of (staged_of it)) ≡ it.cut + it.staged.from + length it.staged.items.items
+staged_length it stored =
+    let within = stored.stay_within in
+    omega (arith, within, length-append {A = Numbered}, length-drop {A = Numbered}, length-take {A = Numbered})
+
+-- events are staged, and there is room for them
+pub events_stored : (it : Inside) (a : Account) (events : List Event) → account_of it ≡ a → IsKept a → staged_of it ≡ with_events events a
+    → it.cut + it.staged.from ≤ length it.items.items → it.cut + it.staged.from + length it.staged.items.items ≤ vec_capacity it.items → IsStored it
+events_stored it a events account_is kept staged_is within room = record {
+  kept = subst IsKept (sym account_is) kept;
+  ordered = subst IsOrdered (sym staged_is) (with_events_ordered events a kept.ordered);
+  stay_within = within;
+  room = room;
+}

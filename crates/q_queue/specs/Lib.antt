@@ -2,3 +2,4 @@ pub mod Polled
 pub mod QueueValue
 pub mod Staging
 pub mod Stored
+pub mod Places

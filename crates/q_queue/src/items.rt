@@ -5,9 +5,8 @@ ghost use Rattle.std.specs.Ordering.{nat_cmp};
 ghost use Rattle.ev_rows.specs.Rows.{SortedByKey};
 ghost use Rattle.ev_types.specs.declared.event.Event.TheVariants.{Heartbeat};
 ghost use Rattle.zw_traces.specs.Account.{above, greatest_id, not_above};
-ghost use Rattle.ev_groups.specs.Items.{events_of};
+ghost use Rattle.ev_groups.specs.Items.{AllIds, events_of};
 ghost use Rattle.zw_traces.specs.ShardTrace.{shown_items};
-ghost use Rattle.zw_traces.specs.IsKept.{AllIds};
 
 use crate::ids::id_of;
 use ev_base::{ExactClone, Listed, NoMemory};

@@ -6,5 +6,6 @@ mod ids;
 mod items;
 mod queue;
 mod staging;
+mod stand;
 
 pub use queue::{Pushed, Queue};

@@ -1,14 +1,14 @@
 use Rattle.std.proofs.Common.{◌-◌, ◌<◌, ◌≤◌, ◌^◌, Bool, List, drop, length, take, inl, inr, ap, sym, subst, ◌∙◌, arith, take-append-drop, refl}
 use Rattle.zw_traces.specs.declared.shard.ShardReply.TheVariants.{Answer, NoMemory}
 use Rattle.zw_traces.specs.Account.{after_answer, max_ids}
-use Rattle.ev_groups.specs.Items.{Numbered}
+use Rattle.ev_groups.specs.Items.{AllIds, Numbered}
 use Rattle.zw_traces.specs.KeptAccount.{without_pruned}
 use Rattle.zw_traces.specs.ShardTrace.{AnswersItems}
-use Rattle.zw_traces.specs.IsKept.{AllIds}
 use Rattle.q_queue.specs.QueueValue.{QueueValue}
 use Rattle.q_queue.specs.Stored.{account_of}
-use Rattle.q_queue.proofs.ItemLemmas.{ids_in_slice, ids_weaker}
-use Rattle.q_queue.proofs.AccountLemmas.{ids_within}
+use Rattle.ev_groups.proofs.Ids.{ids_weaker}
+use Rattle.zw_traces.proofs.KeptQueues.{ids_within}
+use Rattle.q_queue.proofs.ItemLemmas.{ids_in_slice}
 use Rattle.q_queue.proofs.PollLemmas.{empty_is, gives_beat, heartbeat_is, kept_value, none_left}
 use Rattle.q_queue.proofs.queue.Queue.answer.Goals as goal
 
