@@ -2,13 +2,13 @@
 use Rattle.std.proofs.Common.{◌≡◌, ℕ, Bool, true, false, not, cond, ◌&&◌, ◌||◌, List, [], ◌∷◌, ◌++◌, fold, Option, None, Some, sym, ap, refl, ◌∙◌, true≢false}
 use Rattle.std.specs.List.{list_any}
 use Rattle.std.specs.Option.{option_map_or}
-use Rattle.std.proofs.lemmas.List.{map-append}
 use Rattle.std.proofs.lemmas.List.Sums.{fold-append}
 use Rattle.std.proofs.lemmas.Option.{same_Some}
 use Rattle.ev_types.specs.declared.event.Event.{Event}
 use Rattle.ev_types.specs.declared.event.Event.TheVariants.{Flags}
 use Rattle.ev_types.specs.declared.event.FlagChange.{FlagChange}
-use Rattle.ev_groups.specs.Items.{Numbered, event_of, events_of}
+use Rattle.ev_groups.specs.Items.{Numbered, events_of}
+use Rattle.ev_groups.proofs.Ids.{events_of-append}
 use Rattle.ev_groups.specs.Groups.{is_grouped, are_alike, closes, with_member, change_of, takes_in, grown, with_change, with_event_of, with_event}
 
 -- both tests fail where neither holds, and hold where both do
@@ -23,9 +23,6 @@ both false b is = absurd (true≢false (sym is))
 pub fails : (b : Bool) → not b ≡ true → b ≡ false
 fails true is = absurd (true≢false (sym is))
 fails false is = refl
-
-pub events_of-append : (xs ys : List Numbered) → events_of (xs ++ ys) ≡ events_of xs ++ events_of ys
-events_of-append xs ys = map-append event_of xs ys
 
 -- an item that takes a change in is a group that is alike, and no later item closes it
 pub record TakesIn (item : Numbered) (later : List Numbered) (change : FlagChange) : Type 0 where

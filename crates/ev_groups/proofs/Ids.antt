@@ -1,15 +1,16 @@
 -- Ids of items, their order, and their number.
-use Rattle.std.proofs.Common.{◌≡◌, ℕ, ◌+◌, ◌<◌, ◌≤◌, Bool, true, false, cond, List, [], ◌∷◌, ◌++◌, length, filter, fold, Less, Ordering, sym, subst, arith, length-append, refl}
+use Rattle.std.proofs.Common.{◌≡◌, ℕ, ◌+◌, ◌<◌, ◌≤◌, Bool, true, false, cond, List, [], ◌∷◌, ◌++◌, length, filter, fold, Less, Ordering, sym, subst, arith, length-append, ap, refl, ◌∙◌}
 use Rattle.std.specs.Ordering.{nat_cmp, MatchOrdering}
 use Rattle.std.specs.Cmp.{nat_cmp_is, ranks}
 use Rattle.std.proofs.lemmas.List.Elements.{All-nil, All-cons, All-head, All-tail, All-append, All-weaker, All-filter}
+use Rattle.std.proofs.lemmas.List.{map-append}
 use Rattle.std.proofs.lemmas.List.Sums.{fold-append}
 use Rattle.ev_rows.specs.Rows.{SortedByKey}
 use Rattle.ev_rows.proofs.RiseLemmas.{IsBelow, rise-nil, rise-cons, rise_head, rise_tail, rise-filter}
 use Rattle.ev_types.specs.declared.event.Event.{Event}
 use Rattle.ev_types.specs.declared.event.Event.TheVariants.{Flags}
 use Rattle.ev_types.specs.declared.event.FlagChange.{FlagChange}
-use Rattle.ev_groups.specs.Items.{Numbered, numbered, AllIds}
+use Rattle.ev_groups.specs.Items.{Numbered, numbered, AllIds, event_of, events_of}
 use Rattle.ev_groups.specs.Groups.{with_event, with_event_of, with_change, takes_in, grown, grouped}
 
 module _ (P : ℕ → Type 0) where
@@ -115,6 +116,20 @@ numbered_ids used (event ∷ events) =
 pub length-numbered : (used : ℕ) (events : List Event) → length (numbered used events) ≡ length events
 length-numbered used [] = refl
 length-numbered used (event ∷ events) = let inner = length-numbered (used + 1) events in omega arith
+
+-- more events go on from the ids that were used
+pub numbered-append : (used : ℕ) (events more : List Event) → numbered used (events ++ more) ≡ numbered used events ++ numbered (used + length events) more
+numbered-append used [] more = ap (λ (n : ℕ). numbered n more) (omega arith)
+numbered-append used (event ∷ events) more =
+    ap (λ (rest : List Numbered). (used + 1, event) ∷ rest)
+    (numbered-append (used + 1) events more ∙ ap (λ (n : ℕ). numbered (used + 1) events ++ numbered n more) (omega arith))
+
+pub events_of-numbered : (used : ℕ) (events : List Event) → events_of (numbered used events) ≡ events
+events_of-numbered used [] = refl
+events_of-numbered used (event ∷ events) = ap (λ rest. event ∷ rest) (events_of-numbered (used + 1) events)
+
+pub events_of-append : (xs ys : List Numbered) → events_of (xs ++ ys) ≡ events_of xs ++ events_of ys
+events_of-append xs ys = map-append event_of xs ys
 
 -- sorted items: the first id is below the others
 below_ids : (id : ℕ) (xs : List Numbered) → AllIds (λ n. id < n) xs → IsBelow nat_cmp id xs

@@ -1,18 +1,9 @@
 -- Items above an id, and the greatest of some ids.
-use Rattle.std.proofs.Common.{◌≡◌, ℕ, ◌+◌, ◌<◌, ◌≤◌, max, Bool, true, false, cond, not, nat_lt, List, [], ◌∷◌, ◌++◌, refl, ap, arith}
+use Rattle.std.proofs.Common.{◌≡◌, ℕ, ◌<◌, ◌≤◌, max, Bool, true, false, cond, not, nat_lt, List, [], ◌∷◌, refl, arith}
 use Rattle.std.proofs.lemmas.Bool.{ltb-false, ltb-true, lt-ltb, le-ltb}
-use Rattle.ev_types.specs.declared.event.Event.{Event}
-use Rattle.ev_groups.specs.Items.{AllIds, Numbered, numbered, events_of}
+use Rattle.ev_groups.specs.Items.{AllIds, Numbered}
 use Rattle.ev_groups.proofs.Ids.{ids_cons, ids_head, ids_nil, ids_tail}
 use Rattle.zw_traces.specs.Account.{above, not_above, greatest_id}
-
-pub events_of-numbered : (used : ℕ) (events : List Event) → events_of (numbered used events) ≡ events
-events_of-numbered used [] = refl
-events_of-numbered used (event ∷ events) = ap (λ rest. event ∷ rest) (events_of-numbered (used + 1) events)
-
-pub events_of-append : (xs ys : List Numbered) → events_of (xs ++ ys) ≡ events_of xs ++ events_of ys
-events_of-append [] ys = refl
-events_of-append (x ∷ xs) ys = ap (λ rest. x.1 ∷ rest) (events_of-append xs ys)
 
 -- all are above an id, or none is
 pub above_all : (id : ℕ) (xs : List Numbered) → AllIds (λ n. id < n) xs → above id xs ≡ xs
