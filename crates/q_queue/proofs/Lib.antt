@@ -1,4 +1,7 @@
+pub mod StandIns
 pub mod ItemLemmas
 pub mod AccountLemmas
+pub mod TailLemmas
+pub mod StagedLemmas
 pub mod PollLemmas
 pub mod KeptSteps

@@ -1,3 +1,5 @@
 pub mod Polled
 pub mod QueueValue
+pub mod Staging
 pub mod Stored
+pub mod Places

@@ -5,5 +5,7 @@
 mod ids;
 mod items;
 mod queue;
+mod staging;
+mod stand;
 
 pub use queue::{Pushed, Queue};

@@ -5,7 +5,7 @@ use Rattle.zw_traces.proofs.Phases.{held_again, opening_is_held}
 use Rattle.ev_base.specs.declared.ids.QueueId.{QueueId}
 use Rattle.ev_types.specs.declared.event.Event.{Event}
 use Rattle.ev_types.specs.declared.section.Section.{Section}
-use Rattle.ev_types.specs.Sections.{Sections}
+use Rattle.ev_types.specs.Sections.{Sections, SectionsSorted}
 use Rattle.ev_types.specs.Applying.{applied}
 use Rattle.ev_types.specs.Feeders.{covers}
 use Rattle.zw_views.specs.Views.{section_of}
@@ -32,23 +32,23 @@ module _ (all : List Accepted) (queue : QueueId) (which : Section) where
 
   -- the items do to the section what the commits from the opening up to a position changed
   abbrev pub Does : Account → ℕ → Type 0
-  Does a place = (view : Sections) → rows_after (events_of (items_of a)) (section_of which view) ≡ rows_after (told queue.user all a.opened_at place) (section_of which view)
+  Does a place = (view : Sections) → SectionsSorted view → rows_after (events_of (items_of a)) (section_of which view) ≡ rows_after (told queue.user all a.opened_at place) (section_of which view)
 
   more_do : (a : Account) (place until : ℕ) → covers a.types which ≡ true → a.opened_at ≤ place → place ≤ until → until ≤ length all
       → Does a place → Does (with_events (received a.types (told queue.user all place until)) a) until
-  more_do a place until covered first second within inner view =
+  more_do a place until covered first second within inner view sorted =
       let known = told queue.user all a.opened_at place in
       let new = told queue.user all place until in
-      rows_more a.cut_off a (received a.types new) (section_of which view)
-      ∙ ap (rows_after (received a.types new)) (inner view ∙ rows_after-section which known view)
+      rows_more a.cut_off a (received a.types new) which view sorted
+      ∙ ap (rows_after (received a.types new)) (inner view sorted ∙ rows_after-section which known view)
       ∙ received_enough a.types which covered new (applied known view)
       ∙ ap (rows_after new) (sym (rows_after-section which known view))
       ∙ sym (rows_after-append known new (section_of which view))
       ∙ ap (λ events. rows_after events (section_of which view)) (sym (since_split queue.user all a.opened_at place until first second within))
 
   cut_does : (early : List Numbered) (a : Account) (place : ℕ) → early ≡ items_of a → Does a place
-      → (view : Sections) → rows_after (events_of (early ++ [])) (section_of which view) ≡ rows_after (told queue.user all a.opened_at place) (section_of which view)
-  cut_does early a place is inner view = ap (λ (list : List Numbered). rows_after (events_of list) (section_of which view)) (append-nil early ∙ is) ∙ inner view
+      → (view : Sections) → SectionsSorted view → rows_after (events_of (early ++ [])) (section_of which view) ≡ rows_after (told queue.user all a.opened_at place) (section_of which view)
+  cut_does early a place is inner view sorted = ap (λ (list : List Numbered). rows_after (events_of list) (section_of which view)) (append-nil early ∙ is) ∙ inner view sorted
 
   -- what is known of a held queue that covers the section
   record Closed (a : Account) (place : ℕ) : Type 0 where
@@ -72,7 +72,7 @@ module _ (all : List Accepted) (queue : QueueId) (which : Section) where
             let at_is = (opened_tells (shard_account feeding before) reading user salt moment types asked other at answers).1 in
             record {
               opened_within = omega arith;
-              does = λ view. ap (λ events. rows_after events (section_of which view)) (sym (since_none queue.user all at (position_of before) (omega arith) within));
+              does = λ view sorted. ap (λ events. rows_after events (section_of which view)) (sym (since_none queue.user all at (position_of before) (omega arith) within));
             }
     closed_after before (Push first notices) (Pushed reached) answers within inner = go (is_held (account_of feeding queue before)) refl
       where
@@ -113,7 +113,7 @@ module _ (all : List Accepted) (queue : QueueId) (which : Section) where
         go false = inner
         go true = λ covered held.
             let start = inner covered held in
-            let beaten : Does (with_beat (count_of after) beat a) (position_of before) = λ view. beat_does a.cut_off (count_of after) beat a which view ∙ start.does view in
+            let beaten : Does (with_beat (count_of after) beat a) (position_of before) = λ view sorted. beat_does a.cut_off (count_of after) beat a which view sorted ∙ start.does view sorted in
             record { opened_within = start.opened_within; does = cut_does (items_of (with_beat (count_of after) beat a)) (with_beat (count_of after) beat a) (position_of before) refl beaten }
     closed_after before (Poll user other after moment beat) (Empty reached) answers within inner = go (same_queue queue other)
       where

@@ -7,12 +7,12 @@ use Rattle.ev_types.specs.declared.event.Event.{Event}
 use Rattle.ev_types.specs.declared.event.Item.{Item}
 use Rattle.ev_types.specs.declared.section.Section.{Section}
 use Rattle.ev_types.specs.declared.state.Rows.{Rows}
-use Rattle.ev_types.specs.Sections.{Sections, sections_of}
+use Rattle.ev_types.specs.Sections.{Sections, SectionsSorted, sections_of}
 use Rattle.ev_types.specs.Feeders.{covers}
 use Rattle.zw_views.specs.Views.{section_of}
 use Rattle.ev_types.specs.OneSection.{rows_of, rows_after, received}
 use Rattle.zw_traces.specs.declared.realm.RealmStep.{RealmStep}
-use Rattle.zw_traces.specs.RealmTrace.{commands, commits, view_after}
+use Rattle.zw_traces.specs.RealmTrace.{commands, commits, prefix_of, view_after}
 use Rattle.zw_traces.specs.Account.{id_of, Account, Feeding, is_live_phase, account_after, opened_account, with_events, with_beat, beats, is_beat, after_push, after_answer, after_empty, after_finish, items_of, items_to_give, above, greatest_id, count_of, same_queue, is_held, end_user, new_notices}
 use Rattle.zw_laws.proofs.EventsSince.{told}
 use Rattle.zw_laws.proofs.Replaying.{later_view}
@@ -24,10 +24,12 @@ use Rattle.zw_traces.specs.declared.shard.ShardStep.{ShardStep}
 use Rattle.zw_traces.specs.ShardTrace.{ShardAnswers, Reading, QueueFinishes, QueuePolls, account_of, shard_account, position_of, position_after, is_asked, shown_items}
 use Rattle.zw_traces.specs.RealmFeeds.{changed_events, viewed, IsLegalOver}
 use Rattle.zw_traces.specs.Clients.{Client, client, client_after, may_take, take_in, items_above, item_events, steps_of}
-use Rattle.zw_traces.proofs.ItemLemmas.{AllIds-more, above_all, above_none, above_above, greatest_least, greatest_grows, greatest_above}
+use Rattle.ev_groups.proofs.Ids.{ids_weaker}
+use Rattle.zw_traces.proofs.ItemLemmas.{above_all, above_none, above_above, greatest_least, greatest_grows, greatest_above}
 use Rattle.zw_traces.proofs.Steps.{pushed_tells, finished_tells, answered_tells, same_queue_is}
 use Rattle.zw_laws.proofs.Announced.{PositionsWithin}
 use Rattle.zw_traces.proofs.Insides.{Inside, inside, inside_with_events, items_within}
+use Rattle.zw_laws.proofs.CommitViews.{view_sorted}
 use Rattle.zw_laws.proofs.ItemsDo.{rows_more, quiet_beats}
 use Rattle.zw_traces.proofs.Phases.{live_again, live_is_held}
 use Rattle.zw_traces.specs.declared.shard.ShardInput.TheVariants.{Start, Push, Finish, Poll, Delete, Tick}
@@ -52,11 +54,11 @@ shown_greatest count [] = refl
 shown_greatest count (x ∷ xs) =
     ap (λ (n : ℕ). fold (λ greatest (item : Item). max greatest (count_of item.id)) (max count n) (shown_items xs)) (count_of-id_of x.0) ∙ shown_greatest (max count x.0) xs
 
--- above a given id are all items_of after the cut
+-- above a given id are all items after the cut
 above_given : (count : ℕ) (a : Account) → Inside a → count ≤ a.given → above count (items_of a) ≡ above count a.cut_off ++ a.open_items
 above_given count a in_a within =
     filter-append _ a.cut_off a.open_items
-    ∙ ap (λ (late : List Numbered). above count a.cut_off ++ late) (above_all count a.open_items (AllIds-more (λ id. (a.given < id) × (id ≤ a.next)) (λ id. count < id) (λ id is. let low = is.0 in omega arith) a.open_items in_a.open_ids))
+    ∙ ap (λ (late : List Numbered). above count a.cut_off ++ late) (above_all count a.open_items (ids_weaker (λ id. (a.given < id) × (id ≤ a.next)) (λ id. count < id) (λ id is. let low = is.0 in omega arith) a.open_items in_a.open_ids))
 
 module _ (realm : List RealmStep) (queue : QueueId) (which : Section) where
   abbrev feeding : Feeding
@@ -73,6 +75,7 @@ module _ (realm : List RealmStep) (queue : QueueId) (which : Section) where
     pub has : Client
     pub given_is : given ≡ Some has
     pub view : Sections
+    pub sorted : SectionsSorted view
     pub rows_are : has.rows ≡ section_of which view
     pub count_within : has.count ≤ a.given
     pub leads : rows_after (events_of (above has.count (items_of a))) has.rows ≡ view_at place
@@ -84,7 +87,7 @@ module _ (realm : List RealmStep) (queue : QueueId) (which : Section) where
       let count = start.has.count in
       let b = with_events new a in
       ap₂ (λ (list : List Numbered) (rows : Rows). rows_after (events_of list) rows) (above_given count b (inside_with_events new a in_a) start.count_within) start.rows_are
-      ∙ rows_more (above count a.cut_off) a new (section_of which start.view)
+      ∙ rows_more (above count a.cut_off) a new which start.view start.sorted
       ∙ ap (rows_after new) (sym (ap₂ (λ (list : List Numbered) (rows : Rows). rows_after (events_of list) rows) (above_given count a in_a start.count_within) start.rows_are) ∙ start.leads)
 
   follows_push : (a : Account) (place until : ℕ) (given : Option Client) (ends : Bool) → Inside a → covers a.types which ≡ true → place ≤ until → until ≤ commits realm
@@ -95,6 +98,7 @@ module _ (realm : List RealmStep) (queue : QueueId) (which : Section) where
         has = start.has;
         given_is = start.given_is;
         view = start.view;
+        sorted = start.sorted;
         rows_are = start.rows_are;
         count_within = start.count_within;
         leads =
@@ -120,6 +124,7 @@ module _ (realm : List RealmStep) (queue : QueueId) (which : Section) where
         has = start.has;
         given_is = start.given_is;
         view = start.view;
+        sorted = start.sorted;
         rows_are = start.rows_are;
         count_within = omega arith;
         leads =
@@ -151,6 +156,7 @@ module _ (realm : List RealmStep) (queue : QueueId) (which : Section) where
         has = take_in list start.has;
         given_is = refl;
         view = at_place;
+        sorted = view_sorted queue.user (prefix_of place (commands realm));
         rows_are = rows_is;
         count_within = omega (arith, count_is, greatest_grows start.has.count a.given (above after (items_of b)) start.count_within);
         leads =
@@ -218,6 +224,7 @@ module _ (realm : List RealmStep) (queue : QueueId) (which : Section) where
             has = record { rows = section_of which view; count = a.next };
             given_is = ap₂ (λ (rows : Option Rows) (count : ℕ). option_map (λ (rows : Rows). record { rows = rows; count = count }) rows) (tells.rows_are which ∙ is_view) count_is;
             view = view;
+            sorted = view_sorted queue.user (prefix_of (position_of before) (commands realm));
             rows_are = refl;
             count_within = omega arith;
             leads =
@@ -247,13 +254,13 @@ module _ (realm : List RealmStep) (queue : QueueId) (which : Section) where
       go false = inner
       go true = λ covered wanted lives.
           let start = inner covered wanted lives in
-          record { has = start.has; given_is = start.given_is; view = start.view; rows_are = start.rows_are; count_within = start.count_within; leads = start.leads }
+          record { has = start.has; given_is = start.given_is; view = start.view; sorted = start.sorted; rows_are = start.rows_are; count_within = start.count_within; leads = start.leads }
   followed_after before arrives (Delete user other) Deleted given answers within in_a inner = λ covered wanted lives.
       let start = inner covered wanted (live_again _ (account_of feeding queue before).phase lives).1 in
-      record { has = start.has; given_is = start.given_is; view = start.view; rows_are = start.rows_are; count_within = start.count_within; leads = start.leads }
+      record { has = start.has; given_is = start.given_is; view = start.view; sorted = start.sorted; rows_are = start.rows_are; count_within = start.count_within; leads = start.leads }
   followed_after before arrives (Tick moment) (Ticked expired) given answers within in_a inner = λ covered wanted lives.
       let start = inner covered wanted (live_again _ (account_of feeding queue before).phase lives).1 in
-      record { has = start.has; given_is = start.given_is; view = start.view; rows_are = start.rows_are; count_within = start.count_within; leads = start.leads }
+      record { has = start.has; given_is = start.given_is; view = start.view; sorted = start.sorted; rows_are = start.rows_are; count_within = start.count_within; leads = start.leads }
   followed_after before arrives input reply given answers within in_a inner = inner
 
   pub followed : (arrivals : List (Bool × ShardStep)) → IsLegalOver realm (steps_of arrivals) → PositionsWithin (commits realm) (steps_of arrivals)

@@ -7,7 +7,7 @@ use Rattle.ev_types.specs.Sections.{sections_of}
 use Rattle.ev_types.specs.Feeders.{covers}
 use Rattle.zw_traces.specs.declared.shard.FetchedSection.{FetchedSection}
 use Rattle.zw_traces.specs.declared.realm.RealmStep.{RealmStep}
-use Rattle.zw_traces.specs.RealmTrace.{IsLegalRealm, commands, commits, view_after}
+use Rattle.zw_traces.specs.RealmTrace.{IsLegalRealm, commands, commits, prefix_of, view_after}
 use Rattle.zw_traces.specs.FetchedSections.{part_of, first_missing, all_sections, needed}
 use Rattle.zw_traces.specs.RealmFeeds.{IsFrom, opening_place, WereFetched, events_since, changed_events, viewed, Feeds, IsParted, IsPartedStep, IsLegalOver}
 use Rattle.zw_traces.proofs.RealmTraces.{first_commits_stay, view_stays, fetched_view, announced_within}
@@ -25,6 +25,7 @@ use Rattle.zw_traces.proofs.Traces.{earlier_legal}
 use Rattle.zw_traces.proofs.Steps.{pushed_tells, finished_tells}
 use Rattle.zw_laws.proofs.Announced.{PositionsWithin, position_announced, positions_within, pushed_alike}
 use Rattle.zw_laws.proofs.ClosedItems.{items_do}
+use Rattle.zw_laws.proofs.CommitViews.{view_sorted}
 use Rattle.zw_traces.proofs.Phases.{opening_is_held}
 use Rattle.zw_laws.proofs.GivenParts.{found_part, one_given, is_listed, within_needed, found_fetched}
 use Rattle.zw_views.specs.Views.{section_of}
@@ -69,7 +70,7 @@ module _ (realm : List RealmStep) (legal_realm : IsLegalRealm realm) where
       let rows_are : part.rows ≡ section_of which view = fetched.1 ∙ ap (λ s. section_of s view) (sym found.of_it) in
       ap (option_map (λ (p : FetchedSection). rows_after (events_of (items_of a)) p.rows)) there.1
       ∙ ap (λ rows. Some (rows_after (events_of (items_of a)) rows)) rows_are
-      ∙ ap Some (items_do all queue which (viewed all) before legal within covered held view)
+      ∙ ap Some (items_do all queue which (viewed all) before legal within covered held view (view_sorted queue.user (prefix_of part.at all)))
       ∙ ap Some (rows_after-section which (told queue.user all a.opened_at (position_of before)) view)
       ∙ ap (λ view. Some (section_of which view)) (overlapping_view queue.user all a.opened_at part.at (position_of before) past (omega arith) (omega arith))
 

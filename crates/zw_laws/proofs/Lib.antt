@@ -14,3 +14,4 @@ pub mod ActiveUsers
 pub mod ActiveQueues
 pub mod Belonging
 pub mod ShownItems
+pub mod GroupedItems

@@ -1,17 +1,19 @@
 -- Items as clients see them: their ids, and the events under them.
 use Rattle.std.proofs.Common.{◌≡◌, ℕ, ◌<◌, ◌≤◌, Bool, true, false, cond, eqb, Some, List, [], ◌∷◌, ◌++◌, refl, ap, sym, subst, ◌∙◌}
 use Rattle.std.proofs.lemmas.Bool.{eqb-true}
+use Rattle.std.specs.Ordering.{nat_cmp}
+use Rattle.ev_rows.specs.Rows.{SortedByKey}
 use Rattle.ev_types.specs.declared.event.Event.{Event}
 use Rattle.zw_traces.specs.declared.shard.ShardInput.TheVariants.{Poll}
 use Rattle.zw_traces.specs.declared.shard.ShardReply.TheVariants.{Answer}
 use Rattle.zw_traces.specs.declared.shard.ShardStep.{ShardStep}
-use Rattle.ev_groups.specs.Items.{Numbered}
+use Rattle.ev_groups.specs.Items.{AllIds, Numbered}
+use Rattle.ev_groups.proofs.Ids.{ids_head, ids_tail, sorted-filter, sorted_head, sorted_tail}
 use Rattle.zw_traces.specs.Account.{Account, above, after_answer, beats, count_of, greatest_id, is_beat, items_of, items_to_give, with_beat, with_events}
 use Rattle.zw_traces.specs.ShardTrace.{account_of, given_rows, position_of, pushed_events, shown_items}
-use Rattle.zw_traces.proofs.Few.{greatest_all}
 use Rattle.zw_traces.proofs.Insides.{inside, inside_with_events}
-use Rattle.zw_traces.proofs.ItemLemmas.{AllIds, above_ids}
-use Rattle.zw_traces.proofs.Rising.{Rises, all_rise, more_rise, rise, rise-filter}
+use Rattle.zw_traces.proofs.ItemLemmas.{above_ids, greatest_all}
+use Rattle.zw_traces.proofs.Rising.{all_rise, more_rise, rise}
 use Rattle.zw_traces.proofs.Steady.{event_at, same_event}
 use Rattle.zw_traces.proofs.Steps.{answered_tells, same_queue_itself}
 use Rattle.zw_traces.proofs.Traces.{earlier_legal}
@@ -25,10 +27,10 @@ shown_under id (x ∷ xs) = rw (count_of-id_of x.0) (ap (λ rest. cond (eqb id x
 -- an id that is found is one of the ids
 found_id : (P : ℕ → Type 0) (id : ℕ) (event : Event) (xs : List Numbered) → AllIds P xs → event_at id xs ≡ Some event → P id
 found_id P id event [] are found = cc
-found_id P id event (x ∷ xs) are found = go (eqb id x.0) refl found (found_id P id event xs are.1)
+found_id P id event (x ∷ xs) are found = go (eqb id x.0) refl found (found_id P id event xs (ids_tail P x xs are))
   where
     go : (same : Bool) → eqb id x.0 ≡ same → cond same (Some x.1) (event_at id xs) ≡ Some event → (event_at id xs ≡ Some event → P id) → P id
-    go true is found inner = subst P (sym (eqb-true id x.0 is)) are.0
+    go true is found inner = subst P (sym (eqb-true id x.0 is)) (ids_head P x xs are)
     go false is found inner = inner found
 
 pub ids_show_the_same_event : IdsShowTheSameEvent
@@ -58,9 +60,9 @@ ids_show_the_same_event later between before queue user again after next moment 
     same_some : (x y : Event) → Some x ≡ Some y → x ≡ y
     same_some x y is = cc
 
-shown_rise : (least : ℕ) (xs : List Numbered) → AllIds (λ n. least < n) xs → Rises xs → IdsRise least (shown_items xs)
-shown_rise least [] over rises = tt
-shown_rise least (x ∷ xs) over rises = rw (count_of-id_of x.0) (over.0, shown_rise x.0 xs rises.0 rises.1)
+shown_rise : (least : ℕ) (xs : List Numbered) → AllIds (λ n. least < n) xs → SortedByKey nat_cmp xs → IdsRise least (shown_items xs)
+shown_rise least [] over sorted = tt
+shown_rise least (x ∷ xs) over sorted = rw (count_of-id_of x.0) (ids_head (λ n. least < n) x xs over, shown_rise x.0 xs (sorted_head x xs sorted) (sorted_tail x xs sorted))
 
 pub answers_rise : AnswersRise
 answers_rise later before queue user after moment beat list reached legal =
@@ -73,4 +75,4 @@ answers_rise later before queue user after moment beat list reached legal =
     let items = items_of (with_events new a) in
     let sorted = all_rise (with_events new a) (inside_with_events new a in_a) (more_rise new a in_a (rise pushed_events given_rows queue before was.1)) in
     subst (IdsRise (count_of after)) (sym tells.list_is)
-    (shown_rise (count_of after) (above (count_of after) items) (above_ids (count_of after) items) (rise-filter _ items sorted))
+    (shown_rise (count_of after) (above (count_of after) items) (above_ids (count_of after) items) (sorted-filter _ items sorted))

@@ -1,5 +1,5 @@
 -- What holds of every legal trace and history.
-use Rattle.std.specs.Prelude.{◌≡◌, ℕ, ◌≤◌, ◌<◌, ◌==◌, Bool, true, Option, None, Some, List, [], ◌∷◌, ◌++◌, length, ℤ, if◌then◌else◌}
+use Rattle.std.specs.Prelude.{◌≡◌, ℕ, ◌+◌, ◌≤◌, ◌<◌, ◌==◌, Bool, true, Option, None, Some, List, [], ◌∷◌, ◌++◌, length, ℤ, if◌then◌else◌}
 use Rattle.ev_base.specs.declared.ids.UserId.{UserId}
 use Rattle.ev_base.specs.declared.ids.QueueId.{QueueId}
 use Rattle.ev_types.specs.declared.event.Event.{Event}
@@ -9,19 +9,23 @@ use Rattle.ev_types.specs.declared.state.State.{State}
 use Rattle.ev_types.specs.Applying.{applied}
 use Rattle.ev_types.specs.Comparable.{Comparable}
 use Rattle.ev_types.specs.Feeders.{covers}
-use Rattle.ev_types.specs.OneSection.{rows_after, rows_of}
-use Rattle.ev_types.specs.Sections.{sections_of}
+use Rattle.ev_types.specs.OneSection.{received, rows_after, rows_of}
+use Rattle.ev_types.specs.Sections.{Sections, SectionsSorted, sections_of}
 use Rattle.zw_views.specs.Views.{section_of}
 use Rattle.zw_traces.specs.declared.realm.RealmStep.{RealmStep}
 use Rattle.zw_traces.specs.declared.shard.FetchedSection.{FetchedSection}
-use Rattle.zw_traces.specs.declared.shard.ShardInput.TheVariants.{Finish, Poll}
+use Rattle.zw_traces.specs.declared.shard.ShardInput.{ShardInput}
+use Rattle.zw_traces.specs.declared.shard.ShardInput.TheVariants.{Finish, Poll, Push, Start}
 use Rattle.zw_traces.specs.declared.shard.ShardReply.{ShardReply}
-use Rattle.zw_traces.specs.declared.shard.ShardReply.TheVariants.{Answer, Empty, Finished}
+use Rattle.zw_traces.specs.declared.shard.ShardReply.TheVariants.{Answer, Empty, Finished, Opened, Pushed}
 use Rattle.zw_traces.specs.declared.shard.ShardStep.{ShardStep}
 use Rattle.zw_traces.specs.RealmTrace.{Accepted, IsLegalRealm, announced_count, commands, commits, is_active_after, prefix_of, view_after, view_in}
-use Rattle.ev_groups.specs.Items.{events_of}
-use Rattle.zw_traces.specs.Account.{above, count_of, is_held, is_live_phase, items_of, kept_of, max_kept}
-use Rattle.zw_traces.specs.ShardTrace.{IsLegalShard, is_asked, position_of, pushed_events, shard_account}
+use Rattle.ev_groups.specs.Items.{events_of, numbered}
+use Rattle.ev_groups.specs.Groups.{grouped}
+use Rattle.zw_traces.specs.Account.{above, count_of, is_held, is_live_phase, items_of, kept_of, max_kept, same_queue}
+use Rattle.zw_traces.specs.ShardTrace.{IsLegalShard, account_of, is_asked, position_of, pushed_events, shard_account}
+use Rattle.zw_traces.specs.KeptAccount.{without_pruned}
+use Rattle.zw_traces.specs.IsKept.{IsKept}
 use Rattle.zw_traces.specs.RealmFeeds.{Feeds, IsLegalOver, IsParted, WasFetched, account_over, changed_events, events_since}
 use Rattle.zw_traces.specs.Histories.{BelongsTo}
 use Rattle.zw_traces.specs.Clients.{Client, client, steps_of, take_in}
@@ -167,6 +171,40 @@ QueuesAreBounded =
     (trace : List ShardStep) (queue : QueueId) → IsLegalShard trace →
     is_held ((shard_account pushed_events trace).account queue) ≡ true →
     length (kept_of ((shard_account pushed_events trace).account queue)) ≤ max_kept
+
+-- what is kept of such a queue is in order, and within its bounds
+abbrev pub KeptQueuesAreInOrder : Type 0
+KeptQueuesAreInOrder =
+    (trace : List ShardStep) (queue : QueueId) → IsLegalShard trace →
+    is_held ((shard_account pushed_events trace).account queue) ≡ true →
+    IsKept (without_pruned ((shard_account pushed_events trace).account queue))
+
+-- the events that came to a queue since its latest answer or finish
+abbrev pub since_cut_after : QueueId → List ShardStep → ShardInput → ShardReply → List Event → List Event
+since_cut_after queue before (Start user salt moment types asked) (Opened other at) since = if same_queue queue other then [] else since
+since_cut_after queue before (Push first notices) (Pushed reached) since =
+    if is_held (account_of pushed_events queue before)
+    then since ++ received (account_of pushed_events queue before).types (pushed_events queue.user (position_of before) first notices)
+    else since
+since_cut_after queue before (Finish other parts) (Finished state last reached) since = if same_queue queue other then [] else since
+since_cut_after queue before (Poll user other after moment beat) (Answer list reached) since = if same_queue queue other then [] else since
+since_cut_after queue before input reply since = since
+
+abbrev pub since_cut : QueueId → List ShardStep → List Event
+since_cut queue [] = []
+since_cut queue (step ∷ before) = since_cut_after queue before step.input step.reply (since_cut queue before)
+
+-- in every trace the items since then are these events, grouped, under the latest ids that were used, and applying a queue's
+-- items does what applying those before and then these events does
+abbrev pub GroupingChangesNothing : Type 0
+GroupingChangesNothing =
+    (trace : List ShardStep) (queue : QueueId) →
+    (used : ℕ)
+    × (used + length (since_cut queue trace) ≡ (account_of pushed_events queue trace).next)
+    × ((account_of pushed_events queue trace).open_items ≡ grouped (numbered used (since_cut queue trace)))
+    × ((view : Sections) → SectionsSorted view →
+    applied (events_of (items_of (account_of pushed_events queue trace))) view
+    ≡ applied (since_cut queue trace) (applied (events_of (account_of pushed_events queue trace).cut_off) view))
 
 -- a queue's user is active at the commit that its register reply reached, where a section was asked for
 abbrev pub RegisteredUsersAreActive : Type 0

@@ -7,7 +7,8 @@ ghost use Rattle.zw_laws.specs.FedHistories.{OpeningsAreFed, RealmStepsKeepFed, 
 ghost use Rattle.zw_laws.specs.FedHistories.{TakenNoticesAreAnnounced};
 ghost use Rattle.zw_laws.specs.Laws.{AnsweredUsersAreActive, AnswersRise, CommitsAreComparable};
 ghost use Rattle.zw_laws.specs.Laws.{EmptyAnswersGiveTheView, FetchedSectionsAreViews};
-ghost use Rattle.zw_laws.specs.Laws.{FollowersLackItems, IdsShowTheSameEvent};
+ghost use Rattle.zw_laws.specs.Laws.{FollowersLackItems, GroupingChangesNothing};
+ghost use Rattle.zw_laws.specs.Laws.{IdsShowTheSameEvent, KeptQueuesAreInOrder};
 ghost use Rattle.zw_laws.specs.Laws.{OverlappingEventsReplay, OwnTracesAreLegal};
 ghost use Rattle.zw_laws.specs.Laws.{PositionsAreAnnounced, PushedEventsAreTheChanges};
 ghost use Rattle.zw_laws.specs.Laws.{QueuesAreBounded, RegisteredUsersAreActive};
@@ -81,6 +82,16 @@ pub fn answers_rise()
 /// A queue keeps at most 10,000 items.
 pub fn queues_are_bounded()
     ensures { QueuesAreBounded }
+{}
+
+/// What is kept of a queue is in order, and within its bounds.
+pub fn kept_queues_are_in_order()
+    ensures { KeptQueuesAreInOrder }
+{}
+
+/// Changes of flags that became one item do what they did apart.
+pub fn grouping_changes_nothing()
+    ensures { GroupingChangesNothing }
 {}
 
 /// Who registers is active at the commit that the reply reached.

@@ -2,14 +2,17 @@
 use Rattle.std.proofs.Common.{◌≡◌, ℕ, ◌+◌, ◌<◌, ◌≤◌, Bool, true, false, cond, ◌||◌, List, [], ◌∷◌, length, refl, sym, subst, arith}
 use Rattle.ev_base.specs.declared.ids.QueueId.{QueueId}
 use Rattle.ev_types.specs.declared.event.Event.{Event}
+use Rattle.ev_types.specs.declared.kind.Types.{Types}
+use Rattle.ev_types.specs.declared.section.Section.{Section}
 use Rattle.ev_types.specs.OneSection.{received}
 use Rattle.zw_traces.specs.declared.shard.ShardInput.{ShardInput}
 use Rattle.zw_traces.specs.declared.shard.ShardReply.{ShardReply}
-use Rattle.ev_groups.specs.Items.{numbered}
-use Rattle.zw_traces.specs.Account.{Account, Feeding, account_after, unopened_account, opened_account, with_events, with_beat, is_beat, is_over, ended_if, beats, after_handing_out, after_push, after_answer, after_empty, after_finish, items_of, above, not_above, count_of, same_queue, is_held, is_due, end_user, new_notices}
+use Rattle.ev_groups.specs.Items.{AllIds, numbered}
+use Rattle.zw_traces.specs.Account.{Account, Feeding, account_after, unopened_account, opened_account, with_events, with_beat, is_beat, is_over, ended_if, beats, after_handing_out, after_push, after_answer, after_empty, after_finish, items_of, above, not_above, greatest_id, count_of, same_queue, is_held, is_due, end_user, new_notices}
 use Rattle.zw_traces.specs.declared.shard.ShardStep.{ShardStep}
 use Rattle.zw_traces.specs.ShardTrace.{ShardAnswers, IsLegalShardBy, Reading, account_of, shard_account, position_of}
-use Rattle.zw_traces.proofs.ItemLemmas.{AllIds, AllIds-append, AllIds-more, AllIds-filter, with_events_ids, numbered_ids, greatest_least, greatest_within, greatest_above, not_above_ids}
+use Rattle.ev_groups.proofs.Ids.{ids_append, ids_filter, ids_nil, ids_weaker, numbered_ids, with_events_ids}
+use Rattle.zw_traces.proofs.ItemLemmas.{greatest_least, greatest_within, greatest_above, not_above_ids}
 use Rattle.zw_traces.proofs.Steps.{answered_tells, empty_tells, same_queue_is}
 use Rattle.zw_traces.specs.declared.shard.ShardInput.TheVariants.{Start, Push, Finish, Poll, Delete, Tick}
 use Rattle.zw_traces.specs.declared.shard.ShardReply.TheVariants.{Opened, Pushed, Finished, Answer, Empty, Deleted, Ticked}
@@ -22,14 +25,18 @@ pub record Inside (a : Account) : Type 0 where
   pub open_ids : AllIds (λ id. (a.given < id) × (id ≤ a.next)) a.open_items
 
 pub inside_unopened : Inside unopened_account
-inside_unopened = record { pruned_within = omega arith; given_within = omega arith; cut_ids = tt; open_ids = tt }
+inside_unopened = record { pruned_within = omega arith; given_within = omega arith; cut_ids = ids_nil (λ id. id ≤ 0); open_ids = ids_nil (λ id. (0 < id) × (id ≤ 0)) }
+
+inside_new : (types : Types) (asked : List Section) (at moment : ℕ) → Inside (opened_account types asked at moment)
+inside_new types asked at moment =
+    record { pruned_within = omega arith; given_within = omega arith; cut_ids = ids_nil (λ id. id ≤ 0); open_ids = ids_nil (λ id. (0 < id) × (id ≤ 0)) }
 
 -- all ids are within the next
 pub items_within : (a : Account) → Inside a → AllIds (λ id. id ≤ a.next) (items_of a)
 items_within a in_a =
     let most = in_a.given_within in
-    AllIds-append (λ id. id ≤ a.next) a.cut_off a.open_items (AllIds-more (λ id. id ≤ a.given) (λ id. id ≤ a.next) (λ id is. omega arith) a.cut_off in_a.cut_ids)
-    (AllIds-more (λ id. (a.given < id) × (id ≤ a.next)) (λ id. id ≤ a.next) (λ id is. is.1) a.open_items in_a.open_ids)
+    ids_append (λ id. id ≤ a.next) a.cut_off a.open_items (ids_weaker (λ id. id ≤ a.given) (λ id. id ≤ a.next) (λ id is. omega arith) a.cut_off in_a.cut_ids)
+    (ids_weaker (λ id. (a.given < id) × (id ≤ a.next)) (λ id. id ≤ a.next) (λ id is. is.1) a.open_items in_a.open_ids)
 
 pub inside_with_events : (events : List Event) (a : Account) → Inside a → Inside (with_events events a)
 inside_with_events events a in_a =
@@ -39,8 +46,8 @@ inside_with_events events a in_a =
       given_within = omega arith;
       cut_ids = in_a.cut_ids;
       open_ids = with_events_ids (λ id. (a.given < id) × (id ≤ a.next + length events)) a.open_items (numbered a.next events)
-          (AllIds-more (λ id. (a.given < id) × (id ≤ a.next)) (λ id. (a.given < id) × (id ≤ a.next + length events)) (λ id is. let high = is.1 in (is.0, omega arith)) a.open_items in_a.open_ids)
-          (AllIds-more (λ id. (a.next < id) × (id ≤ a.next + length events)) (λ id. (a.given < id) × (id ≤ a.next + length events)) (λ id is. let low = is.0 in (omega arith, is.1)) (numbered a.next events) (numbered_ids a.next events));
+          (ids_weaker (λ id. (a.given < id) × (id ≤ a.next)) (λ id. (a.given < id) × (id ≤ a.next + length events)) (λ id is. let high = is.1 in (is.0, omega arith)) a.open_items in_a.open_ids)
+          (ids_weaker (λ id. (a.next < id) × (id ≤ a.next + length events)) (λ id. (a.given < id) × (id ≤ a.next + length events)) (λ id is. let low = is.0 in (omega arith, is.1)) (numbered a.next events) (numbered_ids a.next events));
     }
 
 inside_ended : (test : Bool) (a : Account) → Inside a → Inside (ended_if test a)
@@ -52,18 +59,18 @@ inside_handed_out after a sent in_a =
     let pruned = in_a.pruned_within in
     let given = in_a.given_within in
     let within = items_within a in_a in
-    let most = greatest_within a.given a.next (above after (items_of a)) given (AllIds-filter (λ id. id ≤ a.next) _ (items_of a) within) in
-    let old = greatest_within a.pruned a.given (not_above after (items_of a)) pruned (AllIds-more (λ id. id ≤ after) (λ id. id ≤ a.given) (λ id is. omega arith) (not_above after (items_of a)) (not_above_ids after (items_of a))) in
+    let most = greatest_within a.given a.next (above after (items_of a)) given (ids_filter (λ id. id ≤ a.next) _ (items_of a) within) in
+    let old = greatest_within a.pruned a.given (not_above after (items_of a)) pruned (ids_weaker (λ id. id ≤ after) (λ id. id ≤ a.given) (λ id is. omega arith) (not_above after (items_of a)) (not_above_ids after (items_of a))) in
     record {
       pruned_within = omega arith;
       given_within = most;
       cut_ids = greatest_above after a.given (items_of a) sent;
-      open_ids = tt;
+      open_ids = ids_nil (λ id. (greatest_id a.given (above after (items_of a)) < id) × (id ≤ a.next));
     }
 
 inside_empty : (after moment : ℕ) (a : Account) → after ≤ a.given → Inside a → Inside (after_empty after moment a)
 inside_empty after moment a sent in_a = record {
-  pruned_within = greatest_within a.pruned a.given (not_above after (items_of a)) in_a.pruned_within (AllIds-more (λ id. id ≤ after) (λ id. id ≤ a.given) (λ id is. omega arith) (not_above after (items_of a)) (not_above_ids after (items_of a)));
+  pruned_within = greatest_within a.pruned a.given (not_above after (items_of a)) in_a.pruned_within (ids_weaker (λ id. id ≤ after) (λ id. id ≤ a.given) (λ id is. omega arith) (not_above after (items_of a)) (not_above_ids after (items_of a)));
   given_within = in_a.given_within;
   cut_ids = in_a.cut_ids;
   open_ids = in_a.open_ids;
@@ -82,7 +89,7 @@ inside_finish a in_a =
       pruned_within = greatest_within a.pruned a.next (items_of a) (omega arith) (items_within a in_a);
       given_within = omega arith;
       cut_ids = items_within a in_a;
-      open_ids = tt;
+      open_ids = ids_nil (λ id. (a.next < id) × (id ≤ a.next));
     }
 
 module _ (feeding : Feeding) (reading : Reading) (queue : QueueId) where
@@ -91,7 +98,7 @@ module _ (feeding : Feeding) (reading : Reading) (queue : QueueId) where
   inside_after before (Start user salt moment types asked) (Opened other at) answers inner = go (same_queue queue other)
     where
       go : (same : Bool) → Inside (cond same (opened_account types asked at moment) (account_of feeding queue before))
-      go true = record { pruned_within = omega arith; given_within = omega arith; cut_ids = tt; open_ids = tt }
+      go true = inside_new types asked at moment
       go false = inner
   inside_after before (Push first notices) (Pushed reached) answers inner = go (is_held (account_of feeding queue before))
     where

@@ -10,5 +10,6 @@ pub mod Uncut
 pub mod KeptSteps
 pub mod Few
 pub mod Rising
+pub mod KeptQueues
 pub mod Steady
 mod Samples

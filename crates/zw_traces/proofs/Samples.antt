@@ -4,9 +4,11 @@ use Rattle.std.specs.Str.{chars}
 use Rattle.ev_base.specs.Texts.{fault_of}
 use Rattle.ev_base.specs.declared.ids.UserId.{UserId}
 use Rattle.ev_base.specs.declared.ids.QueueId.{QueueId}
+use Rattle.ev_base.specs.declared.ids.MessageId.{MessageId}
+use Rattle.ev_base.specs.declared.kinds.Flag.TheVariants.{Starred}
 use Rattle.ev_base.specs.declared.kinds.Role.TheVariants.{Owner, Member}
 use Rattle.ev_types.specs.declared.event.Event.{Event}
-use Rattle.ev_types.specs.declared.event.Event.TheVariants.{Heartbeat, UserAdd, UserChange}
+use Rattle.ev_types.specs.declared.event.Event.TheVariants.{Flags, Heartbeat, UserAdd, UserChange}
 use Rattle.ev_types.specs.declared.event.UserField.TheVariants as user_field
 use Rattle.ev_types.specs.declared.event.Item.{Item}
 use Rattle.ev_types.specs.declared.kind.Types.TheVariants.{All}
@@ -32,7 +34,7 @@ use Rattle.zw_traces.specs.declared.shard.ShardInput.TheVariants.{Start, Push, F
 use Rattle.zw_traces.specs.declared.shard.ShardReply.TheVariants.{Opened, Pushed, Gap, Finished, MissingSection, NotPushed, Answer, Empty, BadQueue, NotSent, Pruned, Deleted, Ticked}
 use Rattle.zw_traces.specs.declared.shard.ShardStep.{ShardStep}
 use Rattle.zw_traces.specs.RealmTrace.{Accepted, IsLegalRealm, IsNotice, RealmAnswers, announced_count, commands, is_active_after, view_after}
-use Rattle.zw_traces.specs.Account.{gone, items_of, kept_of, live}
+use Rattle.zw_traces.specs.Account.{Account, after_answer, after_push, gone, items_of, kept_of, live, opened_account}
 use Rattle.zw_traces.specs.ShardTrace.{IsLegalShard, ShardAnswers, account_of, given_rows, pushed_events, shard_account}
 use Rattle.zw_traces.specs.RealmFeeds.{viewed}
 use Rattle.zw_traces.specs.Histories.{History, IsLegalHistory}
@@ -133,6 +135,25 @@ two_is = record { from_one = omega arith; numbered = refl; ends = refl; tells = 
 
 three_is : IsNotice accepted 3 third_notice
 three_is = record { from_one = omega arith; numbered = refl; ends = refl; tells = λ user. refl }
+
+-- a star and another one are one item, but not once the first was answered
+abbrev stars : List MessageId → Event
+stars messages = Flags (record { flag = Starred; add = true; messages = messages; details = [] })
+
+abbrev one_star : Event
+one_star = stars (record { 0 = 1 } ∷ [])
+
+abbrev other_star : Event
+other_star = stars (record { 0 = 2 } ∷ [])
+
+abbrev watched : Account
+watched = record (opened_account All [] 0 0) { phase = live }
+
+pub changes_of_a_flag_are_one_item : items_of (after_push false (one_star ∷ other_star ∷ []) watched) ≡ (2, stars (record { 0 = 1 } ∷ record { 0 = 2 } ∷ [])) ∷ []
+changes_of_a_flag_are_one_item = refl
+
+pub an_answered_item_stays : items_of (after_push false (other_star ∷ []) (after_answer 0 false 5 (after_push false (one_star ∷ []) watched))) ≡ (1, one_star) ∷ (2, other_star) ∷ []
+an_answered_item_stays = refl
 
 -- the first two notices, when no other command was accepted
 abbrev first_accepted : List Accepted

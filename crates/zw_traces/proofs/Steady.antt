@@ -14,7 +14,8 @@ use Rattle.zw_traces.specs.RealmFeeds.{opening_place}
 use Rattle.zw_traces.specs.Account.{is_unopened_phase, Account, Feeding, Phase, unopened, opening, live, gone, is_opening_phase, is_held_phase, account_after, opened_account, with_events, with_beat, beats, is_beat, is_over, items_to_give, after_push, after_answer, after_empty, after_finish, items_of, above, not_above, count_of, same_user, same_queue, is_held, is_due, end_user, new_notices}
 use Rattle.zw_traces.specs.declared.shard.ShardStep.{ShardStep}
 use Rattle.zw_traces.specs.ShardTrace.{ShardAnswers, IsLegalShardBy, Reading, account_of, shard_account, position_of, opened_queues, opened_after, opened_by}
-use Rattle.zw_traces.proofs.ItemLemmas.{AllIds-more, not_above_none, greatest_least}
+use Rattle.ev_groups.proofs.Ids.{ids_weaker}
+use Rattle.zw_traces.proofs.ItemLemmas.{not_above_none, greatest_least}
 use Rattle.zw_traces.proofs.Insides.{Inside, inside, inside_with_events}
 use Rattle.zw_traces.proofs.Steps.{opened_tells, finished_tells, answered_tells, same_queue_is, same_queue_itself}
 use Rattle.zw_traces.proofs.Phases.{opening_is_held, live_is_held}
@@ -25,7 +26,7 @@ use Rattle.zw_traces.specs.declared.shard.ShardReply.TheVariants.{Opened, Pushed
 not_above_given : (id : ℕ) (a : Account) → Inside a → id ≤ a.given → not_above id (items_of a) ≡ not_above id a.cut_off
 not_above_given id a in_a within =
     filter-append _ a.cut_off a.open_items
-    ∙ ap (λ (late : List Numbered). not_above id a.cut_off ++ late) (not_above_none id a.open_items (AllIds-more (λ n. (a.given < n) × (n ≤ a.next)) (λ n. id < n) (λ n is. let low = is.0 in omega arith) a.open_items in_a.open_ids))
+    ∙ ap (λ (late : List Numbered). not_above id a.cut_off ++ late) (not_above_none id a.open_items (ids_weaker (λ n. (a.given < n) × (n ≤ a.next)) (λ n. id < n) (λ n is. let low = is.0 in omega arith) a.open_items in_a.open_ids))
     ∙ append-nil (not_above id a.cut_off)
 
 steady_events : (id : ℕ) (events : List Event) (a : Account) → Inside a → id ≤ a.given → not_above id (items_of (with_events events a)) ≡ not_above id (items_of a)

@@ -1,14 +1,9 @@
 -- What holds of the account of a queue that is opening or live, without its pruned items.
-use Rattle.std.specs.Prelude.{◌≡◌, ℕ, ◌<◌, ◌≤◌, true, List, length}
-use Rattle.std.specs.List.{All}
+use Rattle.std.specs.Prelude.{◌≡◌, ◌<◌, ◌≤◌, true, length}
 use Rattle.std.specs.Ordering.{nat_cmp}
 use Rattle.ev_rows.specs.Rows.{SortedByKey}
-use Rattle.ev_groups.specs.Items.{Numbered}
+pub use Rattle.ev_groups.specs.Items.{AllIds}
 use Rattle.zw_traces.specs.Account.{Account, is_held, items_of, max_ids, max_kept}
-
--- a test on each id
-abbrev pub AllIds : (ℕ → Type 0) → List Numbered → Type 0
-AllIds P items = All (λ (item : Numbered). P item.0) items
 
 -- its ids are in order
 pub record IsOrdered (a : Account) : Type 0 where

@@ -1,0 +1,5 @@
+mod Samples
+pub mod Ids
+mod GroupFolds
+mod FlagCells
+pub mod GroupedApply
