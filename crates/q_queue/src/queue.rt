@@ -112,7 +112,8 @@ impl Queue {
     }
 
     pub fn is_live(&self) -> bool
-        ensures { result ≡ is_live_phase self.now.account.phase }
+        ensures live { result ≡ is_live_phase self.now.account.phase }
+        ensures is_kept { IsKept self.now.account }
     {
         self.is_live
     }

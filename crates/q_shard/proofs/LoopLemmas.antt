@@ -1,9 +1,9 @@
 -- What loops over a shard's queues, over notices and over their parts make.
-use Rattle.std.proofs.Common.{◌≡◌, ℕ, zero, suc, ◌+◌, ◌<◌, Bool, true, false, cond, not, ◌&&◌, ◌||◌, List, [], ◌∷◌, ◌++◌, length, map, filter, flat_map, slice_get, get_or, Option, Some, refl, ap, sym, subst, ◌∙◌, arith}
+use Rattle.std.proofs.Common.{◌≡◌, ℕ, zero, suc, ◌+◌, ◌<◌, Bool, true, false, cond, not, ◌&&◌, ◌||◌, List, [], ◌∷◌, ◌++◌, length, map, filter, flat_map, slice_get, get_or, drop, drop-cons, add-one, Option, Some, None, refl, ap, sym, subst, ◌∙◌, arith}
 use Rattle.std.proofs.lemmas.Bool.{false≢true}
 use Rattle.std.proofs.lemmas.List.Elements.{filter-append}
 use Rattle.std.specs.List.{cons_option, filter_map, list_any}
-use Rattle.std.specs.Option.{unwrap_or}
+use Rattle.std.specs.Option.{option_map_or, unwrap_or}
 use Rattle.std.proofs.lemmas.List.Concat.{flat_map-cons}
 use Rattle.std.specs.Map.{keys_of}
 use Rattle.std.specs.Map.Calls.{RetainsPairs}
@@ -18,6 +18,7 @@ use Rattle.ev_types.specs.Audiences.{events_for, has_user}
 use Rattle.ev_types.specs.Feeders.{kind_of, receives}
 use Rattle.ev_types.specs.OneSection.{received}
 use Rattle.zw_traces.specs.Account.{Account, end_user, is_due, is_over, same_user, with_events}
+use Rattle.q_shard.proofs.EntryLemmas.{among_more}
 use Rattle.q_shard.specs.ShardInputs.{AreNumbered}
 use Rattle.q_shard.specs.HeldQueues.{AreEnded, HeldQueue, accounts_of, expiries_in, expiry_in, settled_entry, stays_of}
 
@@ -102,14 +103,14 @@ numbered-at first (notice ∷ notices) zero read numbers is within =
 numbered-at first (notice ∷ notices) (suc at) read numbers is within =
     let inner = numbered-at (first + 1) notices at read numbers.1 is (omega arith) in omega arith
 
-module _ (user : UserId) (moment : ℕ) where
-  pub stays_skip : (entry : QueueId × HeldQueue) (rest : List (QueueId × HeldQueue)) → (same_user user entry.0.user && not (is_due moment entry.1.account)) ≡ false
-      → stays_of user moment (accounts_of (entry ∷ rest)) ≡ stays_of user moment (accounts_of rest)
-  stays_skip entry rest not_it = ap (λ (b : Bool). b || stays_of user moment (accounts_of rest)) not_it
-
-  pub stays_hit : (entry : QueueId × HeldQueue) (rest : List (QueueId × HeldQueue)) → (same_user user entry.0.user && not (is_due moment entry.1.account)) ≡ true
-      → stays_of user moment (accounts_of (entry ∷ rest)) ≡ true
-  stays_hit entry rest it = ap (λ (b : Bool). b || stays_of user moment (accounts_of rest)) it
+pub stays_due : (user : UserId) (moment : ℕ) (entry : QueueId × HeldQueue) (rest : List (QueueId × HeldQueue)) → is_due moment entry.1.account ≡ true
+    → stays_of user moment (accounts_of (entry ∷ rest)) ≡ stays_of user moment (accounts_of rest)
+stays_due user moment entry rest due =
+    ap (λ (b : Bool). (same_user user entry.0.user && not b) || stays_of user moment (accounts_of rest)) due ∙ go (same_user user entry.0.user)
+  where
+    go : (same : Bool) → ((same && false) || stays_of user moment (accounts_of rest)) ≡ stays_of user moment (accounts_of rest)
+    go true = refl
+    go false = refl
 
 pub expiries_skip : (all : List (QueueId × Account)) (moment : ℕ) (entry : QueueId × HeldQueue) (rest : List (QueueId × HeldQueue)) → is_due moment entry.1.account ≡ false
     → expiries_in all moment (accounts_of (entry ∷ rest)) ≡ expiries_in all moment (accounts_of rest)
@@ -120,3 +121,22 @@ pub expiries_hit : (all : List (QueueId × Account)) (moment : ℕ) (entry : Que
     → expiries_in all moment (accounts_of (entry ∷ rest)) ≡ expiry_in all moment entry.0 ∷ expiries_in all moment (accounts_of rest)
 expiries_hit all moment entry rest due =
     ap (λ (b : Bool). map (λ (entry : QueueId × Account). expiry_in all moment entry.0) (cond b ((entry.0, entry.1.account) ∷ filter (λ (entry : QueueId × Account). is_due moment entry.1) (accounts_of rest)) (filter (λ (entry : QueueId × Account). is_due moment entry.1) (accounts_of rest)))) due
+
+-- the users whom one notice more tells to be deactivated
+module _ (user : UserId) (notices : List Notice) (at : ℕ) (item : Notice) (within : at < length notices) (is : item ≡ get_or notices at item) (found all : Bool)
+    (before : (found || end_user user (drop at notices)) ≡ all) where
+  ended_step : (found || (option_map_or (same_user user) item.ends false || end_user user (drop (at + 1) notices))) ≡ all
+  ended_step =
+      ap (λ (b : Bool). found || b)
+      (ap (λ (n : Notice). option_map_or (same_user user) n.ends false || end_user user (drop (at + 1) notices)) is
+      ∙ ap (λ (k : ℕ). option_map_or (same_user user) (get_or notices at item).ends false || end_user user (drop k notices)) (add-one at)
+      ∙ ap (end_user user) (sym (drop-cons notices at item within)))
+      ∙ before
+
+  pub ended_none : item.ends ≡ None → (found || end_user user (drop (at + 1) notices)) ≡ all
+  ended_none none = ap (λ (ends : Option UserId). found || (option_map_or (same_user user) ends false || end_user user (drop (at + 1) notices))) (sym none) ∙ ended_step
+
+  pub ended_one : (one : UserId) (found' : Bool) → item.ends ≡ Some one → found' ≡ cond (same_user one user) true found → (found' || end_user user (drop (at + 1) notices)) ≡ all
+  ended_one one found' ends now =
+      among_more user one found found' (end_user user (drop (at + 1) notices)) now
+      ∙ ap (λ (ends : Option UserId). found || (option_map_or (same_user user) ends false || end_user user (drop (at + 1) notices))) (sym ends) ∙ ended_step
