@@ -21,6 +21,3 @@ place_behind front back id change at place = ?
 
 pub place_within : (front : List Numbered) (change : FlagChange) (at : ℕ) → taking_place change front ≡ Some at → at < length front
 place_within front change at place = ?
-
-pub numbered-append : (used : ℕ) (events more : List Event) → numbered used (events ++ more) ≡ numbered used events ++ numbered (used + length events) more
-numbered-append used events more = ?

@@ -6,8 +6,9 @@ use Rattle.ev_types.specs.declared.event.Event.{Event}
 use Rattle.ev_types.specs.declared.event.FlagChange.{FlagChange}
 use Rattle.ev_groups.specs.Items.{Numbered, numbered}
 use Rattle.ev_groups.specs.Groups.{with_change, with_event}
+use Rattle.ev_groups.proofs.Ids.{numbered-append}
 use Rattle.q_queue.specs.Places.{taking_place}
-use Rattle.q_queue.proofs.StandIns.{numbered-append, place_behind}
+use Rattle.q_queue.proofs.StandIns.{place_behind}
 
 -- one more event
 pub one_more : (items : List Numbered) (used next : ℕ) (events : List Event) (event : Event) → next ≡ used + length events

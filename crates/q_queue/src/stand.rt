@@ -16,8 +16,7 @@ pub fn add_event(items: &mut Vec<(u64, Event)>, id: u64, event: Event) -> Result
 
 pub fn taking_place(items: &[(u64, Event)], change: &FlagChange) -> Option<usize>
     requires { Stood }
-    ensures place { result ≡ taking_place change.now items.now }
-    ensures within { IfSome result (λ at. at < length items.now) }
+    ensures { result ≡ taking_place change.now items.now }
 {
     None
 }

@@ -1,6 +1,6 @@
 use Rattle.q_queue.specs.Places.{Stood}
 use Rattle.q_queue.proofs.stand.taking_place.Goals as goal
 
-pub returns-clause-place : goal.returns-clause-place
+pub returns : goal.returns
 unfolding Stood
-returns-clause-place c = absurd c.requires
+returns c = absurd c.requires
