@@ -1,4 +1,7 @@
 mod Samples
 mod GroupFolds
+mod Alike
 mod FlagCells
 pub mod GroupedApply
+pub mod Taking
+pub mod SetIds
