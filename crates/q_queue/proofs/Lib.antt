@@ -1,4 +1,3 @@
-pub mod StandIns
 pub mod ItemLemmas
 pub mod AccountLemmas
 pub mod TailLemmas

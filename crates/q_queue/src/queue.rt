@@ -39,7 +39,7 @@ pub enum Pushed {
 }
 
 /// A queue that is opening or live: its account, without the pruned items, and beside it what a push
-/// is to make of it. `IsKept` says all that holds of its numbers and items.
+/// is to make of it. Of the numbers and items of the account it relies on `IsKept` alone.
 #[derive(Drop)]
 pub struct Queue {
     is_live: bool,

@@ -7,7 +7,7 @@ ghost use Rattle.q_queue.specs.Staging.{TakesInAlone, with_staged};
 
 use crate::items::copies;
 use ev_base::NoMemory;
-use crate::stand::{add_event, closes_all, taking_place};
+use ev_groups::{add_event, closes_all, taking_place};
 use ev_types::Event;
 use std::alloc::Global;
 

@@ -1,6 +1,0 @@
-use Rattle.q_queue.specs.Places.{Stood}
-use Rattle.q_queue.proofs.stand.closes_all.Goals as goal
-
-pub returns : goal.returns
-unfolding Stood
-returns c = absurd c.requires
