@@ -21,37 +21,11 @@ use Rattle.ev_types.specs.declared.event.FlagChange.{FlagChange}
 use Rattle.ev_types.specs.Writes.{Write, put, patch, drop_row, Rules, cell_after_write, cell_after}
 use Rattle.ev_types.specs.EventWrites.{MessageField, to_place, to_content, to_flag, flags_with, message_with, message_rules, message_writes, starred_rules, starred_writes, starred_by_flag, unread_rules, unread_writes, unread_by_flag}
 use Rattle.ev_types.proofs.FieldsSettle.{messages_settle}
-use Rattle.ev_groups.specs.Groups.{same_flag, same_bool, is_grouped, are_alike, closes, with_id, with_member}
+use Rattle.ev_groups.specs.Groups.{same_flag, is_grouped, are_alike, closes, with_id, with_member}
+use Rattle.ev_groups.proofs.Alike.{alike_parts, same_flag_is, same_flag_itself}
 use Rattle.ev_groups.proofs.GroupFolds.{GroupsPass, neither, both, alike_is_grouped}
 
--- 1. flags
-
-same_flag_is : (a b : Flag) → same_flag a b ≡ true → a ≡ b
-same_flag_is Read Read same = refl
-same_flag_is Starred Starred same = refl
-same_flag_is Collapsed Collapsed same = refl
-same_flag_is a b same = absurd (true≢false (sym same))
-
-same_bool_is : (a b : Bool) → same_bool a b ≡ true → a ≡ b
-same_bool_is true b same = sym same
-same_bool_is false true same = absurd (true≢false (sym same))
-same_bool_is false false same = refl
-
--- changes that are alike are of one flag, and both add it or remove it
-record Alike (group change : FlagChange) : Type 0 where
-  flag : group.flag ≡ change.flag
-  add : group.add ≡ change.add
-  grouped : is_grouped change.flag change.add ≡ true
-
-alike_parts : (group change : FlagChange) → are_alike group change ≡ true → Alike group change
-alike_parts group change alike =
-    let parts = both (is_grouped group.flag group.add) (same_flag group.flag change.flag && same_bool group.add change.add) alike in
-    let same = both (same_flag group.flag change.flag) (same_bool group.add change.add) parts.1 in
-    let flag = same_flag_is group.flag change.flag same.0 in
-    let add = same_bool_is group.add change.add same.1 in
-    record { flag = flag; add = add; grouped = sym (λ i. is_grouped (flag i) (add i)) ∙ parts.0 }
-
--- 2. ids
+-- 1. ids
 
 -- the key is among these ids
 abbrev has : MessageId → List MessageId → Bool
@@ -111,7 +85,7 @@ above_none new (id ∷ ids) above =
         absurd (grind (arith, nat_tests))
     go false is above_it further = further
 
--- 3. effects: a change that is made where a test holds
+-- 2. effects: a change that is made where a test holds
 
 -- two that agree where both are made may be swapped
 swapped : {S : Type 0} (f g : S → S) (a b : Bool) (s t : S → S) → ((c : S) → f c ≡ cond a (s c) c) → ((c : S) → g c ≡ cond b (t c) c)
@@ -180,7 +154,7 @@ module _ {V : Type 0} (q : MessageId) (act : Option V → Event → Option V) (e
       let same = at_same message_order q full.message at in
       absurd (true≢false (sym among ∙ ap (λ (k : MessageId). has k group.messages) same ∙ above_none full.message group.messages never))
 
--- 4. the messages
+-- 3. the messages
 module _ (q : MessageId) where
   abbrev message_step : Option ShownMessage → Event → Option ShownMessage
   message_step c event = cell_after message_rules q c (message_writes event)
@@ -241,12 +215,7 @@ module _ (q : MessageId) where
   pub message_groups : GroupsPass message_step
   message_groups = record { passes = λ group event c is never. message_passes group event c is never; joins = λ group change c alike. joined q message_step message_effect group change c alike }
 
--- 5. the starred and the unread messages, where one flag alone writes
-
-same_flag_itself : (f : Flag) → same_flag f f ≡ true
-same_flag_itself Read = refl
-same_flag_itself Starred = refl
-same_flag_itself Collapsed = refl
+-- 4. the starred and the unread messages, where one flag alone writes
 
 one_flag : {X : Type 0} (f g h : Flag) → same_flag f g ≡ true → same_flag f h ≡ true → same_flag g h ≡ false → X
 one_flag f g h first second other =

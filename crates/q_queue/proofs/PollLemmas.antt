@@ -10,16 +10,18 @@ use Rattle.ev_rows.proofs.RiseLemmas.{rise-nil, rise-cons}
 use Rattle.ev_types.specs.declared.event.Event.TheVariants.{Heartbeat}
 use Rattle.zw_traces.specs.declared.shard.ShardReply.{ShardReply}
 use Rattle.zw_traces.specs.Account.{Account, above, after_empty, after_handing_out, beats, count_of, greatest_id, is_beat, is_below_all, is_empty, is_live_phase, items_of, items_to_give, max_ids, max_kept, not_above, same_user, with_beat, with_events, with_moment}
-use Rattle.ev_groups.specs.Items.{Numbered}
+use Rattle.ev_groups.specs.Items.{AllIds, Numbered}
 use Rattle.zw_traces.specs.KeptAccount.{without_pruned}
 use Rattle.zw_traces.specs.ShardTrace.{AnswersItems, QueuePolls}
-use Rattle.zw_traces.specs.IsKept.{AllIds, IsKept}
+use Rattle.zw_traces.specs.IsKept.{IsKept}
 use Rattle.q_queue.specs.Polled.{after_heartbeat, heartbeat}
 use Rattle.q_queue.specs.QueueValue.{QueueValue}
-use Rattle.q_queue.specs.Stored.{IsStored, account_of}
+use Rattle.q_queue.specs.Stored.{IsStored, account_of, staged_of}
 use Rattle.q_queue.specs.declared.queue.Queue.TheInside.{Inside}
-use Rattle.q_queue.proofs.ItemLemmas.{ids_weaker, ids_nil, ids_cons, above_all, above_none, not_above_all, above_ids, not_above_ids, greatest_least, greatest_all, greatest_within, sorted-drop, ids_second, none_above}
-use Rattle.q_queue.proofs.AccountLemmas.{ids_within}
+use Rattle.ev_groups.proofs.Ids.{ids_weaker, ids_nil, ids_cons, ids_second}
+use Rattle.zw_traces.proofs.ItemLemmas.{above_all, above_none, not_above_all, above_ids, not_above_ids, greatest_least, greatest_all, greatest_within}
+use Rattle.zw_traces.proofs.KeptQueues.{ids_within}
+use Rattle.q_queue.proofs.ItemLemmas.{sorted-drop, none_above}
 
 no_events : (a : Account) → with_events [] a ≡ a
 no_events a = let same : a.next + 0 ≡ a.next = omega arith in λ i. record a { next = same i }
@@ -64,18 +66,20 @@ module _ (a : Account) (kept : IsKept a) (count : ℕ) (old : a.pruned ≤ count
         let whole : length (items_of a) ≡ length (first ++ later) = ap length parts in
         let few = kept.at_most in
         record {
-          held = kept.held;
-          pruned_within = omega arith;
-          given_within = greatest_within a.given a.next later kept.given_within (part_within parts);
+          ordered = record {
+            held = kept.ordered.held;
+            pruned_within = omega arith;
+            given_within = greatest_within a.given a.next later kept.ordered.given_within (part_within parts);
+            cut_ids = both later later_high most (omega arith);
+            open_ids = ids_nil (λ id. (greatest_id a.given later < id) × (id ≤ a.next));
+            sorted = subst (λ (list : List Numbered). SortedByKey nat_cmp list) (sym (append-nil later)) sorted;
+          };
           next_within = kept.next_within;
-          cut_ids = both later later_high most (omega arith);
-          open_ids = ids_nil (λ id. (greatest_id a.given later < id) × (id ≤ a.next));
-          sorted = subst (λ (list : List Numbered). SortedByKey nat_cmp list) (sym (append-nil later)) sorted;
           at_most = subst (λ (list : List Numbered). length list ≤ max_kept) (sym (append-nil later)) (omega arith);
         }
       where
         part_within : items_of a ≡ first ++ later → AllIds (λ id. id ≤ a.next) later
-        part_within parts = ids_second (λ id. id ≤ a.next) first later (subst (λ (list : List Numbered). AllIds (λ id. id ≤ a.next) list) parts (ids_within a kept))
+        part_within parts = ids_second (λ id. id ≤ a.next) first later (subst (λ (list : List Numbered). AllIds (λ id. id ≤ a.next) list) parts (ids_within a kept.ordered))
 
         both : (list : List Numbered) → AllIds (λ id. count < id) list → AllIds (λ id. id ≤ greatest_id a.given later) list → greatest_id a.pruned first ≤ count
             → AllIds (λ id. (greatest_id a.pruned first < id) × (id ≤ greatest_id a.given later)) list
@@ -94,7 +98,7 @@ module _ (a : Account) (kept : IsKept a) (count : ℕ) (old : a.pruned ≤ count
     parts = stored ∙ sym (take-append-drop k xs)
 
     abbrev later_sorted : SortedByKey nat_cmp (drop k xs)
-    later_sorted = sorted-drop k xs (subst (λ (list : List Numbered). SortedByKey nat_cmp list) stored kept.sorted)
+    later_sorted = sorted-drop k xs (subst (λ (list : List Numbered). SortedByKey nat_cmp list) stored kept.ordered.sorted)
 
     pub handed_out : (moment : ℕ) (ys : List Numbered) (n given pruned last : ℕ) → ys ≡ drop k xs → n ≡ length ys
         → given ≡ greatest_id a.given (drop k xs) → pruned ≡ greatest_id a.pruned (take k xs) → last ≡ max a.last moment
@@ -115,7 +119,7 @@ module _ (a : Account) (kept : IsKept a) (count : ℕ) (old : a.pruned ≤ count
     open_none : a.open_items ≡ []
     open_none =
         let split : above count a.cut_off ++ above count a.open_items ≡ [] = sym (filter-append _ a.cut_off a.open_items) ∙ none in
-        let all : above count a.open_items ≡ a.open_items = above_all count a.open_items (ids_weaker (λ id. (a.given < id) × (id ≤ a.next)) (λ id. count < id) (λ id is. let more = is.0 in omega arith) a.open_items kept.open_ids) in
+        let all : above count a.open_items ≡ a.open_items = above_all count a.open_items (ids_weaker (λ id. (a.given < id) × (id ≤ a.next)) (λ id. count < id) (λ id is. let more = is.0 in omega arith) a.open_items kept.ordered.open_ids) in
         sym all ∙ second_nil (above count a.cut_off) (above count a.open_items) split
       where
         second_nil : (xs ys : List Numbered) → xs ++ ys ≡ [] → ys ≡ []
@@ -159,12 +163,12 @@ module _ (a : Account) (kept : IsKept a) (count : ℕ) (old : a.pruned ≤ count
 
       above_is : above count (items_of a ++ one) ≡ one
       above_is =
-          let high = kept.given_within in
+          let high = kept.ordered.given_within in
           filter-append _ (items_of a) one ∙ ap (λ (list : List Numbered). list ++ above count one) none ∙ one_above count (omega arith)
 
       not_above_is : not_above count (items_of a ++ one) ≡ items_of a
       not_above_is =
-          let high = kept.given_within in
+          let high = kept.ordered.given_within in
           filter-append _ (items_of a) one
           ∙ ap (λ (list : List Numbered). list ++ not_above count one) (not_above_all count (items_of a) (none_above count (items_of a) none))
           ∙ ap (λ (list : List Numbered). items_of a ++ list) (one_not_above count (omega arith)) ∙ append-nil (items_of a)
@@ -177,8 +181,8 @@ module _ (a : Account) (kept : IsKept a) (count : ℕ) (old : a.pruned ≤ count
 
       pub heartbeat_is : (moment : ℕ) → after_heartbeat moment a ≡ without_pruned (with_moment moment (after_handing_out count (with_beat count true a)))
       heartbeat_is moment =
-          let high = kept.given_within in
-          let most : greatest_id a.pruned (items_of a) ≤ a.next = greatest_within a.pruned a.next (items_of a) (omega arith) (ids_within a kept) in
+          let high = kept.ordered.given_within in
+          let most : greatest_id a.pruned (items_of a) ≤ a.next = greatest_within a.pruned a.next (items_of a) (omega arith) (ids_within a kept.ordered) in
           let pruned_is : greatest_id a.pruned (not_above count (items_of (with_events (Heartbeat ∷ []) a))) ≡ greatest_id a.pruned (items_of a) =
           ap (λ (list : List Numbered). greatest_id a.pruned (not_above count list)) list_is ∙ ap (greatest_id a.pruned) not_above_is in
           let left : above (greatest_id a.pruned (items_of a)) (items_of a ++ one) ≡ one =
@@ -193,7 +197,7 @@ module _ (a : Account) (kept : IsKept a) (count : ℕ) (old : a.pruned ≤ count
           ∙ (λ i. record a { next = a.next + 1; cut_off = cut_is i; open_items = []; given = given_is i; pruned = pruned_is i; last = max a.last moment }))
 
 -- where the count is that of all stored items, none is above it
-module _ (it : Inside) (room : ℕ) (value : QueueValue) (view_is : record { account = account_of it; room = room } ≡ value) where
+module _ (it : Inside) (value : QueueValue) (view_is : record { account = account_of it; staged = staged_of it } ≡ value) where
   pub none_left : (count k long : ℕ) (read : List Numbered) → read ≡ it.items.items → drop k read ≡ above count read → long ≡ vec_len it.items → long ≤ k
       → above count (items_of value.account) ≡ []
   none_left count k long read read_is others long_is all =
@@ -207,18 +211,20 @@ module _ (it : Inside) (room : ℕ) (value : QueueValue) (view_is : record { acc
 -- a heartbeat keeps an account kept
 pub heartbeat_kept : (a : Account) → IsKept a → a.next < max_ids → (moment : ℕ) → IsKept (after_heartbeat moment a)
 heartbeat_kept a kept within moment =
-    let low = kept.pruned_within in
-    let high = kept.given_within in
-    let most : greatest_id a.pruned (items_of a) ≤ a.next = greatest_within a.pruned a.next (items_of a) (omega arith) (ids_within a kept) in
+    let low = kept.ordered.pruned_within in
+    let high = kept.ordered.given_within in
+    let most : greatest_id a.pruned (items_of a) ≤ a.next = greatest_within a.pruned a.next (items_of a) (omega arith) (ids_within a kept.ordered) in
     record {
-      held = kept.held;
-      pruned_within = omega (arith, most);
-      given_within = omega arith;
+      ordered = record {
+        held = kept.ordered.held;
+        pruned_within = omega (arith, most);
+        given_within = omega arith;
+        cut_ids = ids_cons (λ id. (greatest_id a.pruned (items_of a) < id) × (id ≤ a.next + 1)) (heartbeat a.next) [] (omega (arith, most), omega arith)
+            (ids_nil (λ id. (greatest_id a.pruned (items_of a) < id) × (id ≤ a.next + 1)));
+        open_ids = ids_nil (λ id. (a.next + 1 < id) × (id ≤ a.next + 1));
+        sorted = rise-cons nat_cmp (heartbeat a.next) [] tt (rise-nil nat_cmp);
+      };
       next_within = omega (arith, within);
-      cut_ids = ids_cons (λ id. (greatest_id a.pruned (items_of a) < id) × (id ≤ a.next + 1)) (heartbeat a.next) [] (omega (arith, most), omega arith)
-          (ids_nil (λ id. (greatest_id a.pruned (items_of a) < id) × (id ≤ a.next + 1)));
-      open_ids = ids_nil (λ id. (a.next + 1 < id) × (id ≤ a.next + 1));
-      sorted = rise-cons nat_cmp (heartbeat a.next) [] tt (rise-nil nat_cmp);
       at_most = omega arith;
     }
 

@@ -1,3 +1,4 @@
 pub mod Polled
 pub mod QueueValue
+pub mod Staging
 pub mod Stored

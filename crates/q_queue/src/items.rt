@@ -5,9 +5,8 @@ ghost use Rattle.std.specs.Ordering.{nat_cmp};
 ghost use Rattle.ev_rows.specs.Rows.{SortedByKey};
 ghost use Rattle.ev_types.specs.declared.event.Event.TheVariants.{Heartbeat};
 ghost use Rattle.zw_traces.specs.Account.{above, greatest_id, not_above};
-ghost use Rattle.ev_groups.specs.Items.{events_of, numbered};
+ghost use Rattle.ev_groups.specs.Items.{AllIds, events_of};
 ghost use Rattle.zw_traces.specs.ShardTrace.{shown_items};
-ghost use Rattle.zw_traces.specs.IsKept.{AllIds};
 
 use crate::ids::id_of;
 use ev_base::{ExactClone, Listed, NoMemory};
@@ -35,16 +34,15 @@ pub fn greatest_id(id: u64, items: &[(u64, Event)]) -> u64
     greatest
 }
 
-/// Adds events, with the ids after the first `used`. It takes no memory.
-pub fn add_all(items: &mut Vec<(u64, Event)>, used: u64, events: Vec<Event>)
-    requires room { length events.items ≤ vec_capacity items.old - vec_len items.old }
-    requires ids { used + length events.items < 2 ^ 64 }
-    ensures items { items.new.items ≡ items.old.items ++ numbered used events.items }
+/// Adds all of the further items. It takes no memory.
+pub fn add_all(items: &mut Vec<(u64, Event)>, more: &mut Vec<(u64, Event)>)
+    requires room { length items.old.items + length more.old.items ≤ vec_capacity items.old }
+    ensures items { items.new.items ≡ items.old.items ++ more.old.items }
+    ensures more { more.new.items ≡ [] }
+    ensures capacity { vec_capacity items.old ≤ vec_capacity items.new }
 {
-    let mut id = used;
-    for event in events {
-        id += 1;
-        add(items, id, event);
+    if items.append(more).is_err() {
+        unreachable!();
     }
 }
 
@@ -58,6 +56,17 @@ pub fn add(items: &mut Vec<(u64, Event)>, id: u64, event: Event)
     if items.push((id, event)).is_err() {
         unreachable!();
     }
+}
+
+/// Copies of the items.
+pub fn copies(alloc: Global, items: &[(u64, Event)]) -> Result<Vec<(u64, Event)>, NoMemory>
+    ensures { IfOk result (λ copies. copies.items ≡ items.now) }
+{
+    let mut copies = Vec::with_capacity(alloc, items.len())?;
+    for item in items {
+        copies.push(copied(item)?)?;
+    }
+    Ok(copies)
 }
 
 /// The items as a client sees them.

@@ -14,6 +14,7 @@ use crate::ids::{count_of, id_of, is_below_all};
 use crate::items::{
     add, add_all, count_up_to, events_of, greatest_id, shown_heartbeat, shown_items,
 };
+use crate::staging::{Staged, staged_events};
 use ev_base::{Listed, NoMemory, UserId};
 use ev_types::{Event, Item, Section, Types};
 use std::alloc::Global;
@@ -29,7 +30,7 @@ const MAX_IDS: u64 = 9_007_199_254_740_992;
 /// A queue that isn't asked for these seconds is due to be collected.
 const MAX_IDLE: u64 = 600;
 
-/// What became of events that were pushed.
+/// What became of events that were staged.
 #[derive(Clone, Copy, Debug, PartialEq, Eq)]
 pub enum Pushed {
     Kept,
@@ -37,7 +38,8 @@ pub enum Pushed {
     Overrun,
 }
 
-/// A queue that is opening or live: its account, without the pruned items.
+/// A queue that is opening or live: its account, without the pruned items, and beside it what a push
+/// is to make of it. Of the numbers and items of the account it relies on `IsKept` alone.
 #[derive(Drop)]
 pub struct Queue {
     is_live: bool,
@@ -51,6 +53,7 @@ pub struct Queue {
     given: u64,
     pruned: u64,
     last: u64,
+    staged: Staged,
 }
 
 impl Model for Queue {
@@ -58,12 +61,11 @@ impl Model for Queue {
 
     ghost Value = { QueueValue };
 
-    ghost use Rattle.std.specs.Prelude.{◌-◌, vec_capacity, vec_len};
-    ghost use Rattle.q_queue.specs.Stored.{IsStored, account_of};
+    ghost use Rattle.q_queue.specs.Stored.{IsStored, account_of, staged_of};
 
     ghost view = { λ it. record {
       account = account_of it;
-      room = vec_capacity it.items - vec_len it.items;
+      staged = staged_of it;
     } };
 
     ghost invariant = { IsStored };
@@ -91,6 +93,7 @@ impl Queue {
             given: 0,
             pruned: 0,
             last: moment,
+            staged: Staged::nothing(alloc, 0, 0),
         }
     }
 
@@ -109,7 +112,8 @@ impl Queue {
     }
 
     pub fn is_live(&self) -> bool
-        ensures { result ≡ is_live_phase self.now.account.phase }
+        ensures live { result ≡ is_live_phase self.now.account.phase }
+        ensures is_kept { IsKept self.now.account }
     {
         self.is_live
     }
@@ -121,39 +125,54 @@ impl Queue {
         moment >= MAX_IDLE && self.last <= moment - MAX_IDLE
     }
 
-    /// Makes room for `more` events.
-    pub fn reserve(&mut self, more: usize) -> Result<(), NoMemory>
-        ensures room { IfOk result (λ _. more ≤ self.new.room) }
+    /// Makes ready what a push brings, in place of what was staged before, and takes all memory that
+    /// `settle` needs. It costs what is brought and the items behind the first one that takes a
+    /// change in.
+    pub fn stage(&mut self, alloc: Global, events: Vec<Event>) -> Result<(), NoMemory>
+        ensures ok { IfOk result
+            (λ _. self.new.staged ≡ with_events events.items self.old.account) }
         ensures account { self.new.account ≡ self.old.account }
     {
-        Ok(self.items.reserve(more)?)
+        let staged = staged_events(alloc, &self.items[self.cut..], self.next, events)?;
+        self.items.reserve(staged.items.len())?;
+        self.staged = staged;
+        Ok(())
     }
 
-    /// Adds events behind the items. After an overrun the queue is as it was. It takes no memory.
-    pub fn push(&mut self, events: Vec<Event>) -> Pushed
-        requires room { length events.items ≤ self.old.room }
-        ensures overrun { (result ≡ pushed.Overrun)
-            ↔ (is_over (with_events events.items self.old.account) ≡ true) }
-        ensures kept { result ≡ pushed.Kept
-            → self.new.account ≡ with_events events.items self.old.account }
-        ensures same { result ≡ pushed.Overrun → self.new ≡ self.old }
+    /// Drops what is staged.
+    pub fn unstage(&mut self)
+        ensures account { self.new.account ≡ self.old.account }
+        ensures staged { self.new.staged ≡ self.old.account }
+    {
+        let open = self.items.len() - self.cut;
+        self.staged = Staged::nothing(*self.items.allocator(), open, self.next);
+    }
+
+    /// Takes what is staged into the queue. After an overrun the queue is as it was. It takes no
+    /// memory.
+    pub fn settle(&mut self) -> Pushed
+        ensures overrun { (result ≡ pushed.Overrun) ↔ (is_over self.old.staged ≡ true) }
+        ensures kept { result ≡ pushed.Kept → self.new.account ≡ self.old.staged }
+        ensures same { result ≡ pushed.Overrun → self.new.account ≡ self.old.account }
         ensures is_kept { IsKept self.old.account }
     {
-        if self.overruns(events.len()) {
+        if self.overruns() {
             return Pushed::Overrun;
         }
-        let used = self.next;
-        self.next += events.len() as u64;
-        add_all(&mut self.items, used, events);
+        self.items.truncate(self.cut + self.staged.from);
+        add_all(&mut self.items, &mut self.staged.items);
+        self.next = self.staged.next;
+        let open = self.items.len() - self.cut;
+        self.staged = Staged::nothing(*self.items.allocator(), open, self.next);
         Pushed::Kept
     }
 
-    // Whether these more events are too many, for the items that are kept or for the ids.
-    fn overruns(&self, more: usize) -> bool
-        ensures { result ≡ (nat_lt max_kept (length (items_of self.now.account) + more)
-            || nat_lt max_ids (self.now.account.next + more)) }
+    // Whether what is staged makes too many items, or uses too many ids.
+    fn overruns(&self) -> bool
+        ensures { result ≡ is_over self.now.staged }
     {
-        more > MAX_KEPT - self.items.len() || more as u64 > MAX_IDS - self.next
+        self.cut + self.staged.from + self.staged.items.len() > MAX_KEPT
+            || self.staged.next > MAX_IDS
     }
 
     /// Answers the items above `after`, and drops those up to it. With `beat`, a heartbeat is added
@@ -236,6 +255,7 @@ impl Queue {
         self.items.drain(..acknowledged);
         self.cut = self.items.len();
         self.last = self.last.max(moment);
+        self.staged = Staged::nothing(*self.items.allocator(), 0, self.next);
     }
 
     // Adds a heartbeat, and drops all items before it.
@@ -257,6 +277,7 @@ impl Queue {
         self.given = id;
         self.cut = 1;
         self.last = self.last.max(moment);
+        self.staged = Staged::nothing(alloc, 0, id);
         Ok(list)
     }
 
@@ -280,6 +301,7 @@ impl Queue {
         self.given = self.next;
         self.items.clear();
         self.cut = 0;
+        self.staged = Staged::nothing(*self.items.allocator(), 0, self.next);
         id_of(self.next)
     }
 }

@@ -1,5 +1,5 @@
 -- The entries of a shard's map, and the accounts in them.
-use Rattle.std.proofs.Common.{◌≡◌, ℕ, Bool, true, false, cond, ◌&&◌, List, [], ◌∷◌, Option, None, Some, MatchBool, MatchOption, option_map, not, true≢false, refl, ap, sym, subst, ◌∙◌}
+use Rattle.std.proofs.Common.{◌≡◌, ℕ, Bool, true, false, cond, ◌&&◌, ◌||◌, List, [], ◌∷◌, Option, None, Some, MatchBool, MatchOption, option_map, not, true≢false, refl, ap, sym, subst, ◌∙◌}
 use Rattle.std.specs.Option.{unwrap_or}
 use Rattle.std.specs.Map.{lookup, remove_entry, set_value}
 use Rattle.ev_base.specs.declared.ids.UserId.{UserId}
@@ -73,16 +73,33 @@ deletes_own true true is own = refl
 deletes_own true false is own = absurd (true≢false (sym own))
 deletes_own false same is own = absurd (true≢false (sym is))
 
+pub same_user-sym : (a b : UserId) → same_user a b ≡ same_user b a
+same_user-sym a b = go (same_user a b) refl (same_user b a) refl
+  where
+    go : (one : Bool) → same_user a b ≡ one → (other : Bool) → same_user b a ≡ other → one ≡ other
+    go true one true other = refl
+    go false one false other = refl
+    go true one false other = absurd (true≢false (sym (same_user_itself a) ∙ ap (λ u. same_user u a) (same_user_is a b one) ∙ other))
+    go false one true other = absurd (true≢false (sym (same_user_itself b) ∙ ap (λ u. same_user u b) (same_user_is b a other) ∙ one))
+
 -- a count in the place of another
 pub opens_set : (user other : UserId) (count : ℕ) (old : Option ℕ)
     → unwrap_or (cond (same_user user other) (Some count) old) 0 ≡ cond (same_user other user) count (unwrap_or old 0)
-opens_set user other count old = go (same_user user other) refl (same_user other user) refl
+opens_set user other count old = ap (λ (same : Bool). unwrap_or (cond same (Some count) old) 0) (same_user-sym user other) ∙ go (same_user other user)
   where
-    go : (one : Bool) → same_user user other ≡ one → (two : Bool) → same_user other user ≡ two → unwrap_or (cond one (Some count) old) 0 ≡ cond two count (unwrap_or old 0)
-    go true one true two = refl
-    go false one false two = refl
-    go true one false two = absurd (true≢false (sym (same_user_itself user) ∙ ap (λ u. same_user u user) (same_user_is user other one) ∙ two))
-    go false one true two = absurd (true≢false (sym (same_user_itself other) ∙ ap (λ u. same_user u other) (same_user_is other user two) ∙ one))
+    go : (same : Bool) → unwrap_or (cond same (Some count) old) 0 ≡ cond same count (unwrap_or old 0)
+    go true = refl
+    go false = refl
+
+-- a user more among these
+pub among_more : (user one : UserId) (found found' rest : Bool) → found' ≡ cond (same_user one user) true found → (found' || rest) ≡ (found || (same_user user one || rest))
+among_more user one found found' rest is = ap (λ (b : Bool). b || rest) is ∙ go (same_user one user) (same_user-sym one user) found
+  where
+    go : (same : Bool) → same ≡ same_user user one → (found : Bool) → (cond same true found || rest) ≡ (found || (same_user user one || rest))
+    go true same true = refl
+    go true same false = ap (λ (b : Bool). b || rest) same
+    go false same true = refl
+    go false same false = ap (λ (b : Bool). b || rest) same
 
 -- what isn't among the accounts isn't among the entries
 pub none_back : (test : QueueId → Bool) (entries : List (QueueId × HeldQueue)) → lookup test (accounts_of entries) ≡ None → lookup test entries ≡ None

@@ -3,3 +3,4 @@ pub mod StepLemmas
 pub mod EntryLemmas
 pub mod LoopLemmas
 pub mod ReplyLemmas
+pub mod HearingLemmas

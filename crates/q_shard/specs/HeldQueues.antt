@@ -8,8 +8,7 @@ use Rattle.ev_base.specs.declared.expired.Expired.{Expired}
 use Rattle.ev_base.specs.declared.ids.UserId.{UserId}
 use Rattle.ev_base.specs.declared.ids.QueueId.{QueueId}
 use Rattle.ev_types.specs.declared.event.Event.{Event}
-use Rattle.ev_types.specs.declared.notice.Part.{Part}
-use Rattle.ev_types.specs.Audiences.{events_for, has_user}
+use Rattle.ev_types.specs.Audiences.{events_for}
 use Rattle.ev_types.specs.OneSection.{received}
 use Rattle.ev_types.specs.declared.notice.Notice.{Notice}
 use Rattle.zw_traces.specs.declared.shard.ShardReply.{ShardReply}
@@ -18,14 +17,10 @@ use Rattle.zw_traces.specs.Account.{Account, after_finish, end_user, is_due, is_
 use Rattle.zw_traces.specs.ShardTrace.{ShardAccount}
 use Rattle.zw_traces.specs.KeptAccount.{without_pruned}
 
--- a queue, and the events that are ready to be pushed to it
+-- a queue, and what a push that is staged makes of it
 pub record HeldQueue : Type 0 where
   pub account : Account
-  pub staged : List Event
-
--- the user's events in these parts
-abbrev pub heard_events : UserId → List Part → List Event
-heard_events user parts = filter_map (λ part. only_if (has_user user part.audience) (Some part.event)) parts
+  pub staged : Account
 
 -- a queue after a finish with this reply
 abbrev pub finished_account : ShardReply → Account → Account
@@ -71,18 +66,20 @@ AreHeld opens (first ∷ others) =
     (is_held first.1 ≡ true) × (without_pruned first.1 ≡ first.1) × (first.0.number < opens first.0.user)
     × IsAbsent first.0 others × AreHeld opens others
 
--- a queue for which the events that the notices bring it are ready
-abbrev pub staged_held : UserId → List Notice → HeldQueue → HeldQueue
-staged_held user notices held = record { account = held.account; staged = received held.account.types (flat_map (events_for user) notices) }
+-- a queue for which those of these events that it receives are staged
+abbrev pub staged_held : List Event → HeldQueue → HeldQueue
+staged_held events held = record { account = held.account; staged = with_events (received held.account.types events) held.account }
 
 abbrev pub staged_entry : List Notice → QueueId × HeldQueue → QueueId × HeldQueue
-staged_entry notices entry = (entry.0, staged_held entry.0.user notices entry.1)
+staged_entry notices entry = (entry.0, staged_held (flat_map (events_for entry.0.user) notices) entry.1)
 
--- a queue to which the events that were ready are pushed, where it stays
+-- a queue to which what is staged is pushed, where it stays
 abbrev pub settled_entry : List Notice → QueueId × HeldQueue → Option (QueueId × Account)
-settled_entry notices entry =
-    only_if (not (end_user entry.0.user notices || is_over (with_events entry.1.staged entry.1.account)))
-    (Some (entry.0, with_events entry.1.staged entry.1.account))
+settled_entry notices entry = only_if (not (end_user entry.0.user notices || is_over entry.1.staged)) (Some (entry.0, entry.1.staged))
+
+-- these users are those whom the notices tell to be deactivated
+abbrev pub AreEnded : List UserId → List Notice → Type 0
+AreEnded users notices = (user : UserId) → list_any (same_user user) users ≡ end_user user notices
 
 -- one of these queues is the user's and stays at a tick
 abbrev pub stays_of : UserId → ℕ → List (QueueId × Account) → Bool

@@ -1,2 +1,3 @@
 pub mod ShardInputs
 pub mod HeldQueues
+pub mod Hearing

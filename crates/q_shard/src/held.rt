@@ -1,4 +1,4 @@
-//! A queue that a shard holds, and the events that are ready to be pushed to it.
+//! A queue that a shard holds.
 
 ghost use Rattle.std.specs.Prelude.{◌≡◌, ℕ, ◌↔◌, [], IfOk, true};
 ghost use Rattle.ev_base.specs.declared.ids.UserId.{UserId};
@@ -8,18 +8,18 @@ ghost use Rattle.ev_types.specs.declared.section.Section.{Section};
 ghost use Rattle.zw_traces.specs.Account.{is_due, is_held, is_opening_phase, is_over};
 ghost use Rattle.zw_traces.specs.Account.{opened_account, with_events};
 ghost use Rattle.zw_traces.specs.ShardTrace.{QueueFinishes, QueuePolls, given_rows};
+ghost use Rattle.q_shard.specs.Hearing.{events_heard};
 ghost use Rattle.q_shard.specs.HeldQueues.{finished_account, staged_held};
 ghost use Rattle.q_queue.specs.declared.queue.Pushed.TheVariants as pushed;
 ghost use Rattle.q_queue.specs.Polled.{polled};
 
-use crate::received::received_events;
+use crate::told::{Told, received_by};
 use ev_base::{Listed, NoMemory, UserId};
-use ev_types::{Event, Notice, Section, State, Types};
+use ev_types::{Event, Section, State, Types};
 use q_queue::{Pushed, Queue};
 use rg_parts::{finished_state, first_missing, needed};
 use std::alloc::Global;
 use std::marker::Model;
-use std::mem;
 use zw_traces::{FetchedSection, ShardReply};
 
 /// An opening or live queue.
@@ -29,20 +29,14 @@ use zw_traces::{FetchedSection, ShardReply};
 #[derive(Drop)]
 pub struct Held {
     queue: Queue,
-    staged: Vec<Event>,
 }
 
 impl Model for Held {
-    ghost use Rattle.std.specs.Prelude.{◌≡◌, ◌≤◌, length, true};
-    ghost use Rattle.zw_traces.specs.Account.{is_held};
     ghost use Rattle.q_shard.specs.HeldQueues.{HeldQueue};
 
     ghost Value = { HeldQueue };
 
-    ghost view = { λ it. record { account = it.queue.account; staged = it.staged.items } };
-
-    ghost invariant = { λ it. (length it.staged.items ≤ it.queue.room)
-        × (is_held it.queue.account ≡ true) };
+    ghost view = { λ it. record { account = it.queue.account; staged = it.queue.staged } };
 }
 
 impl Held {
@@ -54,12 +48,10 @@ impl Held {
         position: u64,
         moment: u64,
     ) -> Held
-        ensures { result
-            ≡ record { account = opened_account types asked position moment; staged = [] } }
+        ensures { result.account ≡ opened_account types asked position moment }
     {
         Held {
             queue: Queue::start(alloc, types, asked, position, moment),
-            staged: Vec::new(alloc),
         }
     }
 
@@ -76,34 +68,35 @@ impl Held {
         self.queue.is_due(moment)
     }
 
-    /// Makes ready what the notices tell the user, in place of what was staged before.
-    pub fn stage(&mut self, alloc: Global, user: UserId, notices: &[Notice]) -> Result<(), NoMemory>
-        ensures ok { IfOk result (λ _. self.new ≡ staged_held user notices.now self.old) }
+    /// Stages those of the events that the user hears which the queue receives, in place of what was
+    /// staged before.
+    pub fn stage<'a>(
+        &mut self,
+        alloc: Global,
+        user: UserId,
+        told: &Told<'a>,
+    ) -> Result<(), NoMemory>
+        ensures ok { IfOk result (λ _. self.new
+            ≡ staged_held (events_heard told.now.entries user) self.old) }
         ensures account { self.new.account ≡ self.old.account }
     {
-        self.staged.clear();
-        let events = received_events(alloc, user, self.queue.types(), notices)?;
-        self.queue.reserve(events.len())?;
-        self.staged = events;
-        Ok(())
+        let events = received_by(told, alloc, user, self.queue.types())?;
+        self.queue.stage(alloc, events)
     }
 
     /// Drops what is staged.
     pub fn unstage(&mut self)
-        ensures { self.new ≡ record { account = self.old.account; staged = [] } }
+        ensures { self.new.account ≡ self.old.account }
     {
-        self.staged.clear();
+        self.queue.unstage();
     }
 
     /// Pushes what is staged. The queue is gone where it overran.
-    pub fn settle(&mut self, alloc: Global) -> Pushed
-        ensures overrun { (result ≡ pushed.Overrun)
-            ↔ (is_over (with_events self.old.staged self.old.account) ≡ true) }
-        ensures kept { result ≡ pushed.Kept
-            → self.new.account ≡ with_events self.old.staged self.old.account }
+    pub fn settle(&mut self) -> Pushed
+        ensures overrun { (result ≡ pushed.Overrun) ↔ (is_over self.old.staged ≡ true) }
+        ensures kept { result ≡ pushed.Kept → self.new.account ≡ self.old.staged }
     {
-        let events = mem::replace(&mut self.staged, Vec::new(alloc));
-        self.queue.push(events)
+        self.queue.settle()
     }
 
     /// Answers a poll of the queue of this owner.
@@ -120,7 +113,6 @@ impl Held {
         ensures reply { QueuePolls owner self.old.account reached asker after beat result }
         ensures account { self.new.account ≡ polled after moment beat result self.old.account }
     {
-        self.staged.clear();
         self.queue
             .poll(alloc, owner, asker, after, moment, beat, reached)
     }
@@ -153,7 +145,6 @@ impl Held {
         let Ok(state) = self.state(alloc, parts) else {
             return ShardReply::NoMemory;
         };
-        self.staged.clear();
         ShardReply::Finished {
             state,
             last_event_id: self.queue.finish(),

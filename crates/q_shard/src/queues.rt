@@ -1,22 +1,25 @@
 //! The queues of a shard, in the order of their opening.
 
-ghost use Rattle.std.specs.Prelude.{◌≡◌, ◌≤◌, ◌&&◌, ◌||◌, ◌++◌, [], ◌∷◌};
+ghost use Rattle.std.specs.Prelude.{List, ◌≡◌, ◌≤◌, ◌&&◌, ◌||◌, ◌++◌, [], ◌∷◌};
 ghost use Rattle.std.specs.Prelude.{IfOk, None, Some, count_by, filter, map, not, true};
 ghost use Rattle.indexmap.specs.IndexMap.{spare};
-ghost use Rattle.std.specs.List.{filter_map};
+ghost use Rattle.std.specs.List.{filter_map, list_any};
+ghost use Rattle.ev_base.specs.declared.ids.UserId.{UserId};
 ghost use Rattle.std.specs.Map.{lookup};
-ghost use Rattle.zw_traces.specs.Account.{Account, end_user, is_due, is_held};
-ghost use Rattle.zw_traces.specs.Account.{is_over, same_queue, same_user, with_events};
+ghost use Rattle.zw_traces.specs.Account.{Account, is_due, is_held};
+ghost use Rattle.zw_traces.specs.Account.{is_over, same_queue, same_user};
 ghost use Rattle.zw_traces.specs.ShardTrace.{QueueDeletes, QueueFinishes, QueuePolls, given_rows};
 ghost use Rattle.q_queue.specs.Polled.{polled};
-ghost use Rattle.q_shard.specs.HeldQueues.{IsChangedBy, account_in, accounts_of, accounts_without};
+ghost use Rattle.ev_types.specs.declared.notice.Notice.{Notice};
+ghost use Rattle.q_shard.specs.HeldQueues.{AreEnded, IsChangedBy, account_in, accounts_of, accounts_without};
 ghost use Rattle.q_shard.specs.HeldQueues.{expiries_in, finished_account, settled_entry};
 ghost use Rattle.q_shard.specs.HeldQueues.{staged_entry, stays_of};
 
 use crate::held::Held;
+use crate::told::tell;
 use ev_base::{Expired, Listed, NoMemory, QueueId, UserId};
 use ev_types::Notice;
-use indexmap::IndexMap;
+use indexmap::{IndexMap, IndexSet};
 use q_queue::Pushed;
 use std::alloc::Global;
 use zw_traces::{FetchedSection, ShardReply};
@@ -37,9 +40,10 @@ pub fn stage_all(queues: &mut Queues, alloc: Global, notices: &[Notice]) -> Resu
         ≡ map (staged_entry notices.now) queues.old.entries) }
     ensures accounts { accounts_of queues.new.entries ≡ accounts_of queues.old.entries }
 {
+    let told = tell(alloc, queues.keys().as_slice(), notices)?;
     for at in 0..queues.len() {
         let (queue, held) = queues.pair_mut(at);
-        held.stage(alloc, queue.user, notices)?;
+        held.stage(alloc, queue.user, &told)?;
     }
     Ok(())
 }
@@ -54,28 +58,34 @@ pub fn unstage_all(queues: &mut Queues)
     }
 }
 
-/// Pushes what is staged to each queue. Those that overrun are gone, and those whose user one of
-/// the notices tells to be deactivated.
-pub fn settle_all(queues: &mut Queues, alloc: Global, notices: &[Notice])
-    ensures { accounts_of queues.new.entries
-        ≡ filter_map (settled_entry notices.now) queues.old.entries }
+/// Pushes what is staged to each queue. Those that overran are gone, and those whose user is among
+/// the ended ones.
+pub fn settle_all(queues: &mut Queues, ended: &IndexSet<UserId>)
+    ensures { (notices : List Notice) → AreEnded ended.now.keys notices
+        → accounts_of queues.new.entries
+        ≡ filter_map (settled_entry notices) queues.old.entries }
 {
     queues.retain(
         |queue: &QueueId, held: &mut Held| -> bool
             ensures lives { result
-                ≡ not (end_user queue.now.user notices.entry.now
-                || is_over (with_events held.old.staged held.old.account)) }
-            ensures account { result ≡ true
-                → held.new.account ≡ with_events held.old.staged held.old.account }
-        { !ends_user(queue.user, notices) && matches!(held.settle(alloc), Pushed::Kept) },
+                ≡ not (list_any (same_user queue.now.user) ended.entry.now.keys
+                || is_over held.old.staged) }
+            ensures account { result ≡ true → held.new.account ≡ held.old.staged }
+        { !ended.contains(&queue.user) && matches!(held.settle(), Pushed::Kept) },
     );
 }
 
-// Whether one of the notices tells that the user was deactivated.
-fn ends_user(user: UserId, notices: &[Notice]) -> bool
-    ensures { result ≡ end_user user notices.now }
+/// The users of whom the notices tell that they were deactivated.
+pub fn ended_users(alloc: Global, notices: &[Notice]) -> Result<IndexSet<UserId>, NoMemory>
+    ensures { IfOk result (λ users. AreEnded users.keys notices.now) }
 {
-    notices.iter().any(|notice| notice.ends == Some(user))
+    let mut users = IndexSet::new(alloc);
+    for notice in notices {
+        if let Some(user) = notice.ends {
+            users.insert(user)?;
+        }
+    }
+    Ok(users)
 }
 
 /// What is told of the queues that a tick at this moment collects, in the order of their opening.
@@ -83,6 +93,7 @@ pub fn expiries(queues: &Queues, alloc: Global, moment: u64) -> Result<Vec<Expir
     ensures { IfOk result (λ list. list.items
         ≡ expiries_in (accounts_of queues.now.entries) moment (accounts_of queues.now.entries)) }
 {
+    let staying = staying_users(queues, alloc, moment)?;
     let mut list = Vec::new(alloc);
     for entry in queues.iter() {
         let (queue, held) = entry;
@@ -90,30 +101,26 @@ pub fn expiries(queues: &Queues, alloc: Global, moment: u64) -> Result<Vec<Expir
             list.push(Expired {
                 queue: *queue,
                 moment,
-                last_of_user: !keeps_other(queues, queue.user, moment),
+                last_of_user: !staying.contains(&queue.user),
             })?;
         }
     }
     Ok(list)
 }
 
-// Whether a queue of the user stays at a tick at this moment.
-fn keeps_other(queues: &Queues, user: UserId, moment: u64) -> bool
-    ensures { result ≡ stays_of user moment (accounts_of queues.now.entries) }
+// The users of whom a queue stays at a tick at this moment.
+fn staying_users(queues: &Queues, alloc: Global, moment: u64) -> Result<IndexSet<UserId>, NoMemory>
+    ensures { IfOk result (λ users. (user : UserId) → list_any (same_user user) users.keys
+        ≡ stays_of user moment (accounts_of queues.now.entries)) }
 {
+    let mut users = IndexSet::new(alloc);
     for entry in queues.iter() {
         let (queue, held) = entry;
-        if is_kept_of(user, *queue, held, moment) {
-            return true;
+        if !held.is_due(moment) {
+            users.insert(queue.user)?;
         }
     }
-    false
-}
-
-fn is_kept_of(user: UserId, queue: QueueId, held: &Held, moment: u64) -> bool
-    ensures { result ≡ (same_user user queue.user && not (is_due moment held.now.account)) }
-{
-    user == queue.user && !held.is_due(moment)
+    Ok(users)
 }
 
 /// Drops the queues that a tick at this moment collects.

@@ -12,7 +12,9 @@ ghost use Rattle.q_shard.specs.HeldQueues.{account_in, opens_in, seen};
 ghost use Rattle.q_shard.specs.ShardInputs.{AreNumbered, IsProper};
 
 use crate::held::Held;
-use crate::queues::{self, Queues, collect, expiries, held_by, settle_all, stage_all, unstage_all};
+use crate::queues::{
+    self, Queues, collect, ended_users, expiries, held_by, settle_all, stage_all, unstage_all,
+};
 use ev_base::{Listed, NoMemory, QueueId, UserId};
 use ev_types::{Notice, Section, Types};
 use indexmap::IndexMap;
@@ -151,11 +153,14 @@ impl Shard {
             };
         }
         let (new, reached) = new_notices(self.position, first, notices.as_slice());
+        let Ok(ended) = ended_users(alloc, new) else {
+            return ShardReply::NoMemory;
+        };
         let Ok(()) = stage_all(&mut self.queues, alloc, new) else {
             unstage_all(&mut self.queues);
             return ShardReply::NoMemory;
         };
-        settle_all(&mut self.queues, alloc, new);
+        settle_all(&mut self.queues, &ended);
         self.position = reached;
         ShardReply::Pushed { position: reached }
     }

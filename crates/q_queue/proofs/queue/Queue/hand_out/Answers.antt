@@ -6,10 +6,11 @@ use Rattle.zw_traces.specs.IsKept.{IsKept}
 use Rattle.q_queue.specs.QueueValue.{QueueValue}
 use Rattle.q_queue.specs.Stored.{account_of}
 use Rattle.q_queue.proofs.PollLemmas.{handed_out, handed_out_kept}
+use Rattle.q_queue.proofs.StagedLemmas.{nothing_stored}
 use Rattle.q_queue.proofs.queue.Queue.hand_out.Goals as goal
 
 -- the account afterwards, and that it is kept
-whole : (c : goal.After-self-4-1) → (account_of (record {
+whole : (c : goal.After-drop-self-inside) → (account_of (record {
   is_live = c.self.inside.is_live;
   types = c.self.inside.types;
   asked = c.self.inside.asked;
@@ -20,6 +21,7 @@ whole : (c : goal.After-self-4-1) → (account_of (record {
   given = c.greatest_id-self-inside-2.result;
   pruned = c.greatest_id-self-inside.result;
   last = c.max-self-inside.result;
+  staged = c.nothing.result;
 }) ≡ without_pruned (with_moment c.args.moment (after_handing_out c.args.count (account_of c.self.inside))))
     × IsKept (without_pruned (with_moment c.args.moment (after_handing_out c.args.count (account_of c.self.inside))))
 whole c =
@@ -48,7 +50,8 @@ whole c =
 pub invariant_of-self : goal.invariant_of-self
 invariant_of-self c =
     let long = c.len-self-inside.ensures ∙ c.drop-drain.new.self.0.ok.0 in
-    record { kept = subst IsKept (sym (whole c).0) (whole c).1; cut_within = omega (arith, long) }
+    nothing_stored _ (omega (arith, long, c.nothing.ensures.from)) c.nothing.ensures.items c.nothing.ensures.next (subst IsKept (sym (whole c).0) (whole c).1)
+    (omega (arith, c.drop-drain.new.self.0.ok))
 
 pub returns : goal.returns
 returns c = (whole c).0 ∙ ap (λ q. without_pruned (with_moment c.args.moment (after_handing_out c.args.count q.account))) c.self.view_is

@@ -13,7 +13,7 @@ use Rattle.q_shard.proofs.held.Held.finish.Goals as goal
 pub returns-clause-reply : goal.returns-clause-reply
 returns-clause-reply c =
     let a = c.self.inside.queue.account in
-    let opens = opening_if_held a.phase c.self.invariant.1 (sym c.is_live.ensures ∙ c.if-is_live.false) in
+    let opens = opening_if_held a.phase c.is_live.ensures.is_kept.ordered.held (sym c.is_live.ensures.live ∙ c.if-is_live.false) in
     let none : first_missing all_sections a.asked c.args.parts ≡ None =
     (λ i. first_missing all_sections (sym c.asked.ensures i) (sym c.as_slice.ensures i)) ∙ sym c.first_missing.ensures ∙ c.in_default.is in
     let need : needed a.asked c.args.parts ≡ c.needed-need.result =

@@ -14,12 +14,17 @@ returns-then-first-self-gt1-clause-shard c =
     rw (← c.self.view_is) (unchanged s c.self.invariant)
 
 pub invariant_of-self : goal.invariant_of-self
-invariant_of-self c = rw (c.unstage_all.ensures ∙ c.in_default.ensures.accounts) c.self.invariant
+invariant_of-self c = rw (c.unstage_all.ensures ∙ c.in_default-stage_all.ensures.accounts) c.self.invariant
 
 pub returns-in_default-clause-shard : goal.returns-in_default-clause-shard
 returns-in_default-clause-shard c =
     let s : ShardState = record { position = c.self.inside.position; opens = c.self.inside.opens.entries; queues = accounts_of c.self.inside.queues.entries } in
-    let same : accounts_of c.unstage_all.new.queues.entries ≡ s.queues = c.unstage_all.ensures ∙ c.in_default.ensures.accounts in
+    rw (← c.self.view_is) (unchanged s c.self.invariant)
+
+pub returns-in_default-stage_all-clause-shard : goal.returns-in_default-stage_all-clause-shard
+returns-in_default-stage_all-clause-shard c =
+    let s : ShardState = record { position = c.self.inside.position; opens = c.self.inside.opens.entries; queues = accounts_of c.self.inside.queues.entries } in
+    let same : accounts_of c.unstage_all.new.queues.entries ≡ s.queues = c.unstage_all.ensures ∙ c.in_default-stage_all.ensures.accounts in
     rw (← c.self.view_is) (ap (λ (list : List (QueueId × Account)). seen (record { position = s.position; opens = s.opens; queues = list })) same ∙ unchanged s c.self.invariant)
 
 pub invariant_of-self-2 : goal.invariant_of-self-2
@@ -27,7 +32,7 @@ invariant_of-self-2 c =
     let s : ShardState = record { position = c.self.inside.position; opens = c.self.inside.opens.entries; queues = accounts_of c.self.inside.queues.entries } in
     let new_is = c.new_notices-reached.ensures.notices ∙ ap (new_notices s.position c.args.first) c.as_slice.ensures in
     (push_any s c.self.inside.queues.entries c.args.first c.new_notices-reached.result.1 c.args.notices _ refl c.self.invariant
-    (c.settle_all.ensures ∙ ap (filter_map (settled_entry c.new_notices-reached.result.0.now)) c.in-Ok.ensures.ok
+    (c.settle_all.ensures c.new_notices-reached.result.0.now c.in-Ok.ensures ∙ ap (filter_map (settled_entry c.new_notices-reached.result.0.now)) c.in-Ok-stage_all.ensures.ok
     ∙ ap (λ list. filter_map (settled_entry list) (map (staged_entry list) c.self.inside.queues.entries)) new_is)).held
 
 pub returns-clause-reply : goal.returns-clause-reply
@@ -43,5 +48,5 @@ returns-clause-shard c =
     let s : ShardState = record { position = c.self.inside.position; opens = c.self.inside.opens.entries; queues = accounts_of c.self.inside.queues.entries } in
     let new_is = c.new_notices-reached.ensures.notices ∙ ap (new_notices s.position c.args.first) c.as_slice.ensures in
     rw (← c.self.view_is) (push_any s c.self.inside.queues.entries c.args.first c.new_notices-reached.result.1 c.args.notices _ refl c.self.invariant
-    (c.settle_all.ensures ∙ ap (filter_map (settled_entry c.new_notices-reached.result.0.now)) c.in-Ok.ensures.ok
+    (c.settle_all.ensures c.new_notices-reached.result.0.now c.in-Ok.ensures ∙ ap (filter_map (settled_entry c.new_notices-reached.result.0.now)) c.in-Ok-stage_all.ensures.ok
     ∙ ap (λ list. filter_map (settled_entry list) (map (staged_entry list) c.self.inside.queues.entries)) new_is)).seen_is

@@ -65,7 +65,7 @@ invariant_of-self-2 c =
     let queue : QueueId = record { user = c.args.user; number = c.opens_of-number.result; salt = c.args.salt } in
     let added : accounts_of c.add.new.queues.entries ≡ s.queues ++ (queue, opened_account c.args.types c.args.asked s.position c.args.moment) ∷ [] =
     c.add.ensures ∙ ap (λ list. accounts_of list ++ (queue, c.start.result.account) ∷ []) c.in-Ok.ensures.queues
-    ∙ ap (λ (held : HeldQueue). s.queues ++ (queue, held.account) ∷ []) c.start.ensures in
+    ∙ ap (λ (a : Account). s.queues ++ (queue, a) ∷ []) c.start.ensures in
     let step = start_any s c.self.invariant c.args.user c.args.salt c.args.moment c.args.types c.args.asked c.opens_of-number.result c.opens_of-number.ensures.value c.set_opens.new.opens.entries counted _ added in
     step.held
 
@@ -86,7 +86,7 @@ returns-clause-shard c =
     let queue : QueueId = record { user = c.args.user; number = c.opens_of-number.result; salt = c.args.salt } in
     let added : accounts_of c.add.new.queues.entries ≡ s.queues ++ (queue, opened_account c.args.types c.args.asked s.position c.args.moment) ∷ [] =
     c.add.ensures ∙ ap (λ list. accounts_of list ++ (queue, c.start.result.account) ∷ []) c.in-Ok.ensures.queues
-    ∙ ap (λ (held : HeldQueue). s.queues ++ (queue, held.account) ∷ []) c.start.ensures in
+    ∙ ap (λ (a : Account). s.queues ++ (queue, a) ∷ []) c.start.ensures in
     let step = start_any s c.self.invariant c.args.user c.args.salt c.args.moment c.args.types c.args.asked c.opens_of-number.result c.opens_of-number.ensures.value c.set_opens.new.opens.entries counted _ added in
     step.seen_is
     ∙ ap (λ (v : ShardState). kept_shard (shard_after pushed_events (Start c.args.user c.args.salt c.args.moment c.args.types c.args.asked) (Opened queue s.position) (seen v))) c.self.view_is
