@@ -4,6 +4,8 @@ use Rattle.std.proofs.Common.{◌≡◌, ℕ, Bool, true, false, not, cond, ◌&
 use Rattle.std.specs.Prelude.{nat_lt, nat_le, ◌==◌}
 use Rattle.std.specs.List.{list_any}
 use Rattle.std.specs.BTreeMap.{is_at}
+use Rattle.std.proofs.Math.Bool.{or-false}
+use Rattle.std.proofs.lemmas.Bool.{and_parts, or_parts}
 use Rattle.std.proofs.lemmas.Bool.Decides.{nat_tests}
 use Rattle.ev_rows.proofs.RowLemmas.{at_same}
 use Rattle.ev_base.specs.Orders.{message_cmp, message_order}
@@ -23,7 +25,7 @@ use Rattle.ev_types.specs.EventWrites.{MessageField, to_place, to_content, to_fl
 use Rattle.ev_types.proofs.FieldsSettle.{messages_settle}
 use Rattle.ev_groups.specs.Groups.{same_flag, is_grouped, are_alike, closes, with_id, with_member}
 use Rattle.ev_groups.proofs.Alike.{alike_parts, same_flag_is, same_flag_itself}
-use Rattle.ev_groups.proofs.GroupFolds.{GroupsPass, neither, both, alike_is_grouped}
+use Rattle.ev_groups.proofs.GroupFolds.{GroupsPass, alike_is_grouped}
 
 -- 1. ids
 
@@ -59,11 +61,7 @@ module _ (q : MessageId) where
 
   -- a group has the ids of both
   has-with_ids : (new ids : List MessageId) → has q (fold with_id ids new) ≡ (has q ids || has q new)
-  has-with_ids [] ids = go (has q ids)
-    where
-      go : (b : Bool) → b ≡ (b || false)
-      go true = refl
-      go false = refl
+  has-with_ids [] ids = sym (or-false (has q ids))
   has-with_ids (id ∷ new) ids = has-with_ids new (with_id ids id) ∙ ap (λ (b : Bool). (b || has q new)) (has-with_id ids id) ∙ go (is_at (message_cmp q) id) (has q ids) (has q new)
     where
       go : (a b c : Bool) → ((a || b) || c) ≡ (b || (a || c))
@@ -76,7 +74,7 @@ module _ (q : MessageId) where
 above_none : (new : MessageId) (ids : List MessageId) → list_any (λ (id : MessageId). nat_le new.0 id.0) ids ≡ false → has new ids ≡ false
 above_none new [] above = refl
 above_none new (id ∷ ids) above =
-    let parts = neither (nat_le new.0 id.0) (list_any (λ (other : MessageId). nat_le new.0 other.0) ids) above in
+    let parts = or_parts (nat_le new.0 id.0) (list_any (λ (other : MessageId). nat_le new.0 other.0) ids) above in
     go (is_at (message_cmp new) id) refl parts.0 (above_none new ids parts.1)
   where
     go : (at : Bool) → is_at (message_cmp new) id ≡ at → nat_le new.0 id.0 ≡ false → has new ids ≡ false → (at || has new ids) ≡ false
@@ -146,7 +144,7 @@ module _ {V : Type 0} (q : MessageId) (act : Option V → Event → Option V) (e
   past group event c b t is made agree =
       swapped (λ d. act d (Flags group)) (λ d. act d event) (effect.here group.flag && has q group.messages) b (effect.made group.flag group.add) t
       (λ d. effect.acts group d is) made
-      (λ a_is b_is d. let parts = both (effect.here group.flag) (has q group.messages) a_is in agree parts.0 parts.1 b_is d) c
+      (λ a_is b_is d. let parts = and_parts (effect.here group.flag) (has q group.messages) a_is in agree parts.0 parts.1 b_is d) c
 
   -- a new message that is above those of a group is none of them
   not_new : {X : Type 0} (group : FlagChange) (full : FullMessage) → closes group (MessageNew full) ≡ false → has q group.messages ≡ true → is_at (message_cmp q) full.message ≡ true → X
@@ -257,7 +255,7 @@ module _ (q : MessageId) where
   star_passes group (MessageNew full) c is never =
       let starred = full.row.flags.starred in
       past q star_step star_effect group (MessageNew full) c (starred && is_at (message_cmp q) full.message) (λ d. Some tt) is (star_new starred full.message)
-      (λ here among at d. not_new q star_step star_effect group full never among (both starred (is_at (message_cmp q) full.message) at).1)
+      (λ here among at d. not_new q star_step star_effect group full never among (and_parts starred (is_at (message_cmp q) full.message) at).1)
   star_passes group (MessagesRestored messages) c is never = absurd (true≢false never)
   star_passes group (Flags other) c is never =
       past q star_step star_effect group (Flags other) c (same_flag Starred other.flag) (λ d. star_step d (Flags other)) is (star_where other.flag other.add other.messages)
@@ -310,7 +308,7 @@ module _ (q : MessageId) where
   unread_passes group (MessageNew full) c is never =
       let read = full.row.flags.read in
       past q unread_step unread_effect group (MessageNew full) c (not read && is_at (message_cmp q) full.message) (λ d. Some full.row.place) is (unread_new read full.message full.row.place)
-      (λ here among at d. not_new q unread_step unread_effect group full never among (both (not read) (is_at (message_cmp q) full.message) at).1)
+      (λ here among at d. not_new q unread_step unread_effect group full never among (and_parts (not read) (is_at (message_cmp q) full.message) at).1)
   unread_passes group (MessagesRestored messages) c is never = absurd (true≢false never)
   unread_passes group (MessageMoved ids stream topic) c is never =
       let p = place.Stream stream topic in

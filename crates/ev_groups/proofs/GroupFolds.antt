@@ -1,7 +1,8 @@
 -- Events grouped do what the events do, whatever they act on, where a group passes what doesn't close it and joins what is alike.
-use Rattle.std.proofs.Common.{◌≡◌, ℕ, Bool, true, false, not, cond, ◌&&◌, ◌||◌, List, [], ◌∷◌, ◌++◌, fold, Option, None, Some, sym, ap, refl, ◌∙◌, true≢false}
+use Rattle.std.proofs.Common.{◌≡◌, ℕ, Bool, true, false, not, cond, ◌&&◌, List, [], ◌∷◌, ◌++◌, fold, Option, None, Some, sym, ap, refl, ◌∙◌, true≢false}
 use Rattle.std.specs.List.{list_any}
 use Rattle.std.specs.Option.{option_map_or}
+use Rattle.std.proofs.lemmas.Bool.{and_parts, not-true, or_parts}
 use Rattle.std.proofs.lemmas.List.Sums.{fold-append}
 use Rattle.std.proofs.lemmas.Option.{same_Some}
 use Rattle.ev_types.specs.declared.event.Event.{Event}
@@ -10,19 +11,6 @@ use Rattle.ev_types.specs.declared.event.FlagChange.{FlagChange}
 use Rattle.ev_groups.specs.Items.{Numbered, events_of}
 use Rattle.ev_groups.proofs.Ids.{events_of-append}
 use Rattle.ev_groups.specs.Groups.{is_grouped, are_alike, closes, with_member, change_of, takes_in, grown, with_change, with_event_of, with_event}
-
--- both tests fail where neither holds, and hold where both do
-pub neither : (a b : Bool) → (a || b) ≡ false → (a ≡ false) × (b ≡ false)
-neither true b is = absurd (true≢false is)
-neither false b is = (refl, is)
-
-pub both : (a b : Bool) → (a && b) ≡ true → (a ≡ true) × (b ≡ true)
-both true b is = (refl, is)
-both false b is = absurd (true≢false (sym is))
-
-pub fails : (b : Bool) → not b ≡ true → b ≡ false
-fails true is = absurd (true≢false (sym is))
-fails false is = refl
 
 -- an item that takes a change in is a group that is alike, and no later item closes it
 pub record TakesIn (item : Numbered) (later : List Numbered) (change : FlagChange) : Type 0 where
@@ -42,11 +30,11 @@ taken_in item later change = go (change_of item.1) refl
         → option_map_or (λ group. are_alike group change && not (list_any (λ (other : Numbered). closes group other.1) later)) found false ≡ true → TakesIn item later change
     go None is takes = absurd (true≢false (sym takes))
     go (Some group) is takes =
-        let tests = both (are_alike group change) (not (list_any (λ (other : Numbered). closes group other.1) later)) takes in
-        record { group = group; event = flags_of item.1 group is; alike = tests.0; open_still = fails (list_any (λ (other : Numbered). closes group other.1) later) tests.1 }
+        let tests = and_parts (are_alike group change) (not (list_any (λ (other : Numbered). closes group other.1) later)) takes in
+        record { group = group; event = flags_of item.1 group is; alike = tests.0; open_still = not-true (list_any (λ (other : Numbered). closes group other.1) later) tests.1 }
 
 pub alike_is_grouped : (group change : FlagChange) → are_alike group change ≡ true → is_grouped group.flag group.add ≡ true
-alike_is_grouped group change alike = (both (is_grouped group.flag group.add) _ alike).0
+alike_is_grouped group change alike = (and_parts (is_grouped group.flag group.add) _ alike).0
 
 -- a group passes an event that doesn't close it, and two that are alike are one
 pub record GroupsPass {S : Type 0} (act : S → Event → S) : Type 0 where
@@ -64,7 +52,7 @@ module _ {S : Type 0} (act : S → Event → S) (law : GroupsPass act) where
       → after (act s (Flags group)) later ≡ act (after s later) (Flags group)
   passes_all group [] s is never = refl
   passes_all group (item ∷ later) s is never =
-      let parts = neither (closes group item.1) (list_any (λ (other : Numbered). closes group other.1) later) never in
+      let parts = or_parts (closes group item.1) (list_any (λ (other : Numbered). closes group other.1) later) never in
       ap (λ t. after t later) (law.passes group item.1 s is parts.0) ∙ passes_all group later (act s item.1) is parts.1
 
   takes : (item : Numbered) (later : List Numbered) (id : ℕ) (change : FlagChange) (s : S) → TakesIn item later change

@@ -3,19 +3,19 @@ use Rattle.std.proofs.Common.{◌≡◌, ◌<◌, ℕ, zero, suc, true, false, c
 use Rattle.std.proofs.Math.Seq.{drop-length}
 use Rattle.std.specs.Prelude.{nat_lt, ◌==◌}
 use Rattle.std.specs.List.{insert, list_all}
+use Rattle.std.proofs.lemmas.Bool.{and_parts}
 use Rattle.std.proofs.lemmas.Bool.Decides.{nat_tests}
 use Rattle.std.proofs.lemmas.List.{take-append-drop}
 use Rattle.ev_base.specs.declared.ids.MessageId.{MessageId}
 use Rattle.ev_groups.specs.Groups.{with_id}
 use Rattle.ev_groups.specs.Places.{are_below}
-use Rattle.ev_groups.proofs.GroupFolds.{both}
 
 -- ids below the new one stay before it
 passes_below : (at : ℕ) (ids : List MessageId) (new : MessageId) → are_below at ids new ≡ true → with_id ids new ≡ take at ids ++ with_id (drop at ids) new
 passes_below zero ids new below = refl
 passes_below (suc at) [] new below = refl
 passes_below (suc at) (id ∷ ids) new below =
-    let parts = both (nat_lt id.0 new.0) (are_below at ids new) below in
+    let parts = and_parts (nat_lt id.0 new.0) (are_below at ids new) below in
     let first : nat_lt id.0 new.0 ≡ true = parts.0 in
     let less : nat_lt new.0 id.0 ≡ false = grind (arith, nat_tests) in
     let equal : (new.0 == id.0) ≡ false = grind (arith, nat_tests) in
@@ -56,7 +56,7 @@ below-further at ids last new less below = go (take at ids) below
     go : (those : List MessageId) → list_all (λ (id : MessageId). nat_lt id.0 last.0) those ≡ true → list_all (λ (id : MessageId). nat_lt id.0 new.0) those ≡ true
     go [] all = refl
     go (id ∷ those) all =
-        let parts = both (nat_lt id.0 last.0) (list_all (λ (other : MessageId). nat_lt other.0 last.0) those) all in
+        let parts = and_parts (nat_lt id.0 last.0) (list_all (λ (other : MessageId). nat_lt other.0 last.0) those) all in
         let first : nat_lt id.0 last.0 ≡ true = parts.0 in
         let one : nat_lt id.0 new.0 ≡ true = grind (arith, nat_tests) in
         λ i. (one i && go those parts.1 i)

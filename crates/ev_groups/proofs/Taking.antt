@@ -3,6 +3,8 @@ use Rattle.std.proofs.Common.{◌≡◌, ◌<◌, ◌≤◌, ◌+◌, ◌-◌, �
 use Rattle.std.specs.Prelude.{nat_lt, nat_le, ⊤}
 use Rattle.std.specs.List.{list_any, remove}
 use Rattle.std.specs.Option.{option_map_or}
+use Rattle.std.proofs.Math.Bool.{or-false, or-true, or_assoc}
+use Rattle.std.proofs.lemmas.Bool.{or_parts}
 use Rattle.std.proofs.lemmas.Bool.Decides.{nat_tests}
 use Rattle.std.proofs.lemmas.List.{take-append-drop, length-take-le, take_rest}
 use Rattle.std.proofs.lemmas.List.Folds.{list_any-append}
@@ -14,7 +16,7 @@ use Rattle.ev_types.specs.declared.event.FlagChange.{FlagChange}
 use Rattle.ev_groups.specs.Items.{Numbered}
 use Rattle.ev_groups.specs.Groups.{same_flag, are_alike, closes, with_member, change_of, takes_in, grown, with_change, with_event}
 use Rattle.ev_groups.specs.Places.{closes_flag, closes_all, taking_place, closes_below, end_of}
-use Rattle.ev_groups.proofs.GroupFolds.{TakesIn, taken_in, neither}
+use Rattle.ev_groups.proofs.GroupFolds.{TakesIn, taken_in}
 use Rattle.ev_groups.proofs.Alike.{alike_parts, same_flag_itself}
 
 -- an option of two is none only where both are
@@ -40,15 +42,11 @@ all_close : (items : List Numbered) (group change : FlagChange) → are_alike gr
 all_close [] group change alike closing = closing
 all_close (item ∷ items) group change alike closing = go (closes_flag change.flag item.1) refl closing (λ rest. all_close items group change alike rest)
   where
-    or_true : (b : Bool) → (b || true) ≡ true
-    or_true true = refl
-    or_true false = refl
-
     go : (test : Bool) → closes_flag change.flag item.1 ≡ test → (test || closes_all items change) ≡ true
         → (closes_all items change ≡ true → list_any (λ (other : Numbered). closes group other.1) items ≡ true)
         → (closes group item.1 || list_any (λ (other : Numbered). closes group other.1) items) ≡ true
     go true is all further = ap (λ b. (b || list_any (λ (other : Numbered). closes group other.1) items)) (closes_each group change item.1 alike is)
-    go false is all further = ap (λ b. (closes group item.1 || b)) (further all) ∙ or_true (closes group item.1)
+    go false is all further = ap (λ b. (closes group item.1 || b)) (further all) ∙ or-true (closes group item.1)
 
 -- behind an item that is closed nothing is taken in
 closed : (item : Numbered) (later : List Numbered) (change : FlagChange) → closes_all later change ≡ true → takes_in item later change ≡ false
@@ -73,7 +71,7 @@ fewer_take item later back change never = go (takes_in item (later ++ back) chan
     go true is =
         let taken = taken_in item (later ++ back) change is in
         let test = λ (other : Numbered). closes taken.group other.1 in
-        let apart = neither (list_any test later) (list_any test back) (sym (list_any-append test later back) ∙ taken.open_still) in
+        let apart = or_parts (list_any test later) (list_any test back) (sym (list_any-append test later back) ∙ taken.open_still) in
         absurd (true≢false (sym (takes_in_is item later change (record { group = taken.group; event = taken.event; alike = taken.alike; open_still = apart.0 })) ∙ never))
     go false is = refl
 
@@ -83,7 +81,7 @@ fewer_take item later back change never = go (takes_in item (later ++ back) chan
 none_beyond : (items : List Numbered) (change : FlagChange) → closes_all items change ≡ false → taking_place change items ≡ None
 none_beyond [] change never = refl
 none_beyond (item ∷ items) change never =
-    let parts = neither (closes_flag change.flag item.1) (closes_all items change) never in
+    let parts = or_parts (closes_flag change.flag item.1) (closes_all items change) never in
     go (takes_in item items change) refl parts.0 (none_beyond items change parts.1)
   where
     go : (test : Bool) → takes_in item items change ≡ test → closes_flag change.flag item.1 ≡ false → taking_place change items ≡ None
@@ -101,11 +99,7 @@ latest (first ∷ front) item back change here never =
   where
     among : (xs : List Numbered) → closes_all (xs ++ item ∷ back) change ≡ true
     among [] = ap (λ b. (b || closes_all back change)) here
-    among (x ∷ xs) = ap (λ b. (closes_flag change.flag x.1 || b)) (among xs) ∙ or_true (closes_flag change.flag x.1)
-      where
-        or_true : (b : Bool) → (b || true) ≡ true
-        or_true true = refl
-        or_true false = refl
+    among (x ∷ xs) = ap (λ b. (closes_flag change.flag x.1 || b)) (among xs) ∙ or-true (closes_flag change.flag x.1)
 
     go : (test : Bool) → option_map (λ at. at + 1) (cond test (Some (length front)) None) ≡ cond test (Some (length (first ∷ front))) None
     go true = ap (λ (n : ℕ). Some n) (add-one (length front))
@@ -149,22 +143,14 @@ none_closes_more items end change d above within never here =
 -- 2. the greatest message of a group tells which new messages close it
 
 below_end : (ids : List MessageId) (end new : ℕ) → nat_lt new (fold (λ e (id : MessageId). cond (nat_lt id.0 e) e (id.0 + 1)) end ids) ≡ (nat_lt new end || list_any (λ (id : MessageId). nat_le new id.0) ids)
-below_end [] end new = go (nat_lt new end)
-  where
-    go : (b : Bool) → b ≡ (b || false)
-    go true = refl
-    go false = refl
+below_end [] end new = sym (or-false (nat_lt new end))
 below_end (id ∷ ids) end new =
     below_end ids (cond (nat_lt id.0 end) end (id.0 + 1)) new
     ∙ ap (λ b. (b || list_any (λ (other : MessageId). nat_le new other.0) ids)) (one id.0)
-    ∙ regroup (nat_lt new end) (nat_le new id.0) (list_any (λ (other : MessageId). nat_le new other.0) ids)
+    ∙ or_assoc (nat_lt new end) (nat_le new id.0) (list_any (λ (other : MessageId). nat_le new other.0) ids)
   where
     one : (n : ℕ) → nat_lt new (cond (nat_lt n end) end (n + 1)) ≡ (nat_lt new end || nat_le new n)
     one n = grind (arith, nat_tests)
-
-    regroup : (a b c : Bool) → ((a || b) || c) ≡ (a || (b || c))
-    regroup true b c = refl
-    regroup false b c = refl
 
 pub closes_below_is : (group : FlagChange) (event : Event) → closes_below group.flag (end_of group.messages) event ≡ closes group event
 closes_below_is group (MessageNew full) =
@@ -235,11 +221,11 @@ with_change-append (item ∷ front) back id change none =
 -- so it is where the back closes every group that is alike
 pub none_takes-closed : (front back : List Numbered) (change : FlagChange) → closes_all back change ≡ true → NoneTakes front back change
 none_takes-closed [] back change closing = tt
-none_takes-closed (item ∷ front) back change closing = (closed item (front ++ back) change (list_any-append (λ (other : Numbered). closes_flag change.flag other.1) front back ∙ ap (λ b. (closes_all front change || b)) closing ∙ or_true (closes_all front change)), none_takes-closed front back change closing)
-  where
-    or_true : (b : Bool) → (b || true) ≡ true
-    or_true true = refl
-    or_true false = refl
+none_takes-closed (item ∷ front) back change closing = (
+  closed item (front ++ back) change
+      (list_any-append (λ (other : Numbered). closes_flag change.flag other.1) front back ∙ ap (λ b. (closes_all front change || b)) closing ∙ or-true (closes_all front change)),
+  none_takes-closed front back change closing,
+)
 
 -- or where the front doesn't take the change in without it
 pub none_takes-nowhere : (front back : List Numbered) (change : FlagChange) → taking_place change front ≡ None → NoneTakes front back change
