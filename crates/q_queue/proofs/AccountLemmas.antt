@@ -1,11 +1,11 @@
 -- What a finish makes of a kept account, and when an account in order is kept.
-use Rattle.std.proofs.Common.{◌≡◌, ℕ, ◌+◌, ◌<◌, ◌≤◌, ◌||◌, false, nat_lt, List, [], ◌++◌, length, refl, ap, sym, ◌∙◌, arith}
+use Rattle.std.proofs.Common.{◌≡◌, ℕ, ◌<◌, ◌≤◌, ◌||◌, false, nat_lt, List, [], length, refl, ap, sym, ◌∙◌, arith}
 use Rattle.std.specs.Ordering.{nat_cmp}
 use Rattle.std.proofs.lemmas.Bool.{ltb-false, or_parts}
 use Rattle.ev_rows.proofs.RiseLemmas.{rise-nil}
 use Rattle.ev_types.specs.declared.kind.Types.{Types}
 use Rattle.ev_types.specs.declared.section.Section.{Section}
-use Rattle.zw_traces.specs.Account.{Account, above, after_finish, greatest_id, is_over, items_of, live, max_ids, max_kept, opened_account}
+use Rattle.zw_traces.specs.Account.{Account, after_finish, greatest_id, is_over, items_of, live, max_ids, max_kept, opened_account}
 use Rattle.ev_groups.specs.Items.{Numbered}
 use Rattle.zw_traces.specs.KeptAccount.{without_pruned}
 use Rattle.zw_traces.specs.IsKept.{IsKept, IsOrdered}

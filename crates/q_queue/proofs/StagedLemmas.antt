@@ -1,12 +1,11 @@
 -- A queue with nothing staged, and with something.
-use Rattle.std.proofs.Common.{◌≡◌, ℕ, ◌+◌, ◌≤◌, List, [], ◌++◌, length, take, drop, append-nil, append_assoc, ap, sym, subst, ◌∙◌, arith, length-append, length-drop, length-take, vec_capacity}
+use Rattle.std.proofs.Common.{◌≡◌, ◌+◌, ◌≤◌, List, [], ◌++◌, length, take, drop, append-nil, ap, sym, subst, ◌∙◌, arith, length-append, length-drop, length-take, vec_capacity}
 use Rattle.std.proofs.lemmas.List.{take_all}
 use Rattle.ev_groups.specs.Items.{Numbered}
 use Rattle.ev_types.specs.declared.event.Event.{Event}
 use Rattle.zw_traces.specs.Account.{Account, items_of, with_events}
 use Rattle.zw_traces.proofs.KeptQueues.{with_events_ordered}
 use Rattle.zw_traces.specs.IsKept.{IsKept, IsOrdered}
-use Rattle.q_queue.specs.QueueValue.{QueueValue}
 use Rattle.q_queue.specs.Stored.{IsStored, account_of, staged_of}
 use Rattle.q_queue.specs.declared.queue.Queue.TheInside.{Inside}
 

@@ -70,7 +70,11 @@ fn stage(open_items: &[(u64, Event)], staged: &mut Staged, event: Event) -> Resu
 }
 
 // Takes in the item that takes an event in, where it stayed until now, and all items after it.
-fn reach_back(open_items: &[(u64, Event)], staged: &mut Staged, event: &Event) -> Result<(), NoMemory>
+fn reach_back(
+    open_items: &[(u64, Event)],
+    staged: &mut Staged,
+    event: &Event,
+) -> Result<(), NoMemory>
     requires from { staged.old.from ≤ length open_items.now }
     ensures from { IfOk result (λ _. staged.new.from ≤ length open_items.now) }
     ensures items { IfOk result

@@ -1,4 +1,4 @@
-use Rattle.std.proofs.Common.{◌≡◌, ◌+◌, ◌++◌, [], ◌∷◌, ap, ◌∙◌, arith, length-append}
+use Rattle.std.proofs.Common.{◌+◌, [], ◌∷◌, ap, ◌∙◌, arith, length-append}
 use Rattle.q_queue.proofs.TailLemmas.{one_more}
 use Rattle.ev_groups.specs.Groups.{with_event}
 use Rattle.q_queue.proofs.staging.staged_events.Goals as goal

@@ -1,4 +1,4 @@
-use Rattle.std.proofs.Common.{◌≡◌, ◌+◌, ◌++◌, List, drop, length, take, ap, sym, subst, ◌∙◌, arith, length-append, length-take}
+use Rattle.std.proofs.Common.{◌≡◌, ◌+◌, ◌++◌, List, length, take, ap, sym, subst, ◌∙◌, arith, length-append, length-take}
 use Rattle.zw_traces.specs.Account.{is_over}
 use Rattle.ev_groups.specs.Items.{Numbered}
 use Rattle.zw_traces.specs.IsKept.{IsKept}
