@@ -1,4 +1,4 @@
-use Rattle.std.proofs.Common.{ap, sym, ◌∙◌, ◌||◌}
+use Rattle.std.proofs.Common.{ap, sym, ◌∙◌, ◌||◌, ◌+◌, drop}
 use Rattle.std.proofs.Math.Bool.{or-false}
 use Rattle.std.proofs.lemmas.List.{drop_all}
 use Rattle.std.specs.List.{list_any}
@@ -14,7 +14,7 @@ loop-notice-preserved c = λ user.
           ended_one user c.args.notices.now c.loop-notice.notice-index c.notice-item.result c.loop-notice-test.true c.notice-item.is found _ (c.loop-notice.invariant user) w.in-Some.user _ w.in-Some.is
           (ap (λ users. list_any (same_user user) users.keys) w.users-is ∙ w.in_ok-insert.ensures.updates.0 user)
         | in_default w ↦
-          ap (λ users. list_any (same_user user) users.keys || _) w.users-is
+          ap (λ users. list_any (same_user user) users.keys || end_user user (drop (c.loop-notice.notice-index + 1) c.args.notices.now)) w.users-is
           ∙ ended_none user c.args.notices.now c.loop-notice.notice-index c.notice-item.result c.loop-notice-test.true c.notice-item.is found _ (c.loop-notice.invariant user) w.in_default.is ]
 
 pub returns : goal.returns
