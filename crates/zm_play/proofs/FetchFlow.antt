@@ -13,9 +13,7 @@ use Rattle.zw_traces.specs.FetchedSections.{all_sections}
 use Rattle.zw_traces.specs.RealmTrace.{Accepted, IsLegalRealm, commands, view_in}
 use Rattle.zw_traces.specs.Histories.{History, with_realm_step}
 use Rattle.zw_world.specs.Worlds.{WorldState}
-use Rattle.zs_script.specs.declared.step.Step.TheVariants.{View}
-use Rattle.zm_text.specs.declared.outcome.Outcome.TheVariants.{Viewed}
-use Rattle.zm_text.specs.Playing.{AreShown, Plays, PlaysRefusedFetch, sections, with_fetch, with_fetches}
+use Rattle.zm_text.specs.Playing.{AreShown, PlaysRefusedFetch, PlaysView, sections, with_fetch, with_fetches}
 use Rattle.zm_text.proofs.Fetches.{AllParts, fetched_parts, fetches_commands, fetches_more, part_in, parts_are}
 use Rattle.zm_play.specs.Flows.{Any, Continues, Extends, FetchesAll, FetchesOne}
 use Rattle.zm_play.specs.Flows.Extends.{rests, asks_realm}
@@ -106,7 +104,7 @@ module _ (old new : WorldState) (user : UserId) where
   -- a view whose sections were fetched is shown
   pub view_goes : (parts : List FetchedSection) (count : ℕ) (state : State) → count ≡ length new.realm.notices
       → sections_of state ≡ fold with_part no_sections parts
-      → Continues old new Any (FetchesAll user all_sections (Some parts)) → Continues old new Any (Plays (View user) (Viewed count state))
+      → Continues old new Any (FetchesAll user all_sections (Some parts)) → Continues old new Any (PlaysView user count (sections_of state))
   view_goes parts count state count_is state_is fetches before at =
       let there = fetches before at in
       let after = there.0 in

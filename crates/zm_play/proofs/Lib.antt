@@ -4,3 +4,4 @@ mod FetchFlow
 pub mod PushRounds
 pub mod RegisterFlow
 pub mod Steps
+pub mod TickFlow

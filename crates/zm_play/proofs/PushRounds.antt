@@ -1,23 +1,27 @@
 -- Notices that are taken and pushed, and what that leaves.
-use Rattle.std.proofs.Common.{◌≡◌, ℕ, ◌+◌, ◌-◌, ◌<◌, ◌≤◌, min, List, [], ◌∷◌, length, refl, ap, sym, subst, ◌∙◌, inl, inr, arith}
+use Rattle.std.proofs.Common.{◌≡◌, ℕ, ◌+◌, ◌-◌, ◌<◌, ◌≤◌, min, max, Bool, true, false, nat_lt, MatchBool, List, [], ◌∷◌, length, refl, ap, sym, subst, ◌∙◌, inl, inr, arith}
 use Rattle.std.specs.Prelude.{Result, Ok, Err}
+use Rattle.std.proofs.lemmas.Bool.{le-ltb}
 use Rattle.ev_rows.specs.declared.memory.NoMemory.{NoMemory}
 use Rattle.ev_types.specs.declared.notice.Notice.{Notice}
 use Rattle.zw_traces.specs.declared.realm.RealmInput.TheVariants.{NoticeAll, Take}
 use Rattle.zw_traces.specs.declared.realm.RealmReply.TheVariants.{Noticed, Notices}
 use Rattle.zw_traces.specs.declared.shard.ShardInput.TheVariants.{Push, Locate}
-use Rattle.zw_traces.specs.declared.shard.ShardReply.TheVariants.{Pushed, At}
+use Rattle.zw_traces.specs.declared.shard.ShardReply.TheVariants.{Pushed, Gap, At}
 use Rattle.zw_traces.specs.RealmTrace.{Accepted, AreNotices, RealmAnswers, announced_count, commands, commits, max_taken}
 use Rattle.zw_traces.specs.RealmFeeds.{AreAnnounced}
 use Rattle.zw_traces.specs.declared.shard.ShardStep.{ShardStep}
-use Rattle.zw_traces.specs.ShardTrace.{given_rows, position_of, pushed_events, shard_account}
+use Rattle.zw_traces.specs.ShardTrace.{OrNoMemory, given_rows, position_of, pushed_events, shard_account}
 use Rattle.zw_traces.specs.Histories.{History, IsFedHistory, with_realm_step, with_shard_step}
 use Rattle.zw_traces.proofs.Steps.{pushed_tells}
 use Rattle.q_shard.specs.ShardInputs.{AreNumbered}
 use Rattle.zw_world.specs.Worlds.{WorldState, WorldRepresents}
 use Rattle.zw_laws.proofs.FedSteps.{taken_notices_are_announced}
-use Rattle.zm_text.specs.Playing.{CatchesUp, PlaysPush, Round, TakesAndPushes}
-use Rattle.zm_play.specs.Flows.{Any, Asks, Continues, Extends, IsAt, IsDue, IsNext, IsReady, MayCatchUp, MayPush, OrStops, TakesNext, TakesUpTo, trace_of}
+use Rattle.zs_script.specs.declared.step.Step.TheVariants.{PushFrom}
+use Rattle.zm_text.specs.declared.outcome.Outcome.{Outcome}
+use Rattle.zm_text.specs.declared.outcome.Outcome.TheVariants as told
+use Rattle.zm_text.specs.Playing.{CatchesUp, Plays, PlaysPush, PlaysPushFrom, Round, TakesAndPushes}
+use Rattle.zm_play.specs.Flows.{Any, Asks, Continues, Extends, IsAt, IsDue, IsNext, IsReady, MayCatchUp, OrStops, PushesTaken, TakesNext, TakesUpTo, WereTaken, trace_of}
 use Rattle.zm_play.specs.Flows.Extends.{rests, asks_realm, asks_shard}
 use Rattle.zm_play.proofs.Steps.{goes_ready, goes_twice, goes_when, last_answer, trace_at-with_step_at, traces_of_shards, realm_goes}
 
@@ -32,62 +36,97 @@ pub notices_are_numbered : (all : List Accepted) (number : ℕ) (list : List Not
 notices_are_numbered all number [] are = tt
 notices_are_numbered all number (notice ∷ list) are = (are.0.numbered, notices_are_numbered all (number + 1) list are.1)
 
--- taken notices that are due may be pushed
-taken_may_be_pushed : (index first from : ℕ) (list : List Notice) (before : History) → IsNext index first before
-    → RealmAnswers before.realm (Take first) (Notices from list) → MayPush index first list (with_realm_step (Take first) (Notices from list) before)
-taken_may_be_pushed index first from list before next answers =
+-- a take as it is asked
+pub record Took (first : ℕ) (list : List Notice) (before after : History) : Type 0 where
+  pub is : after ≡ with_realm_step (Take first) (Notices first list) before
+  pub announced : WereTaken first list after
+
+-- notices that were taken are announced
+took : (first from : ℕ) (list : List Notice) (before : History) → RealmAnswers before.realm (Take first) (Notices from list)
+    → Took first list before (with_realm_step (Take first) (Notices from list) before)
+took first from list before answers =
     let from_is = answers.0 in
     let right : RealmAnswers before.realm (Take first) (Notices first list) = (refl, answers.1, answers.2) in
     record {
-      position = next.position;
+      is = ap (λ n. with_realm_step (Take first) (Notices n list) before) from_is;
       announced = subst (λ n. AreAnnounced (record { input = Take first; reply = Notices n list } ∷ before.realm) first list) (sym from_is)
           (taken_notices_are_announced before.realm first list right);
     }
 
--- a take as it is asked
-pub record Took (first : ℕ) (list : List Notice) (before after : History) : Type 0 where
-  pub is : after ≡ with_realm_step (Take first) (Notices first list) before
-  pub many : length list ≡ min max_taken (announced_count before.realm + 1 - first)
+-- what was taken is pushed
+plays_push_from : (moment index first : ℕ) (list : List Notice) (outcome : Outcome) (before between after : History)
+    → between ≡ with_realm_step (Take first) (Notices first list) before → PushesTaken index first list outcome between after
+    → Plays moment (PushFrom index first) outcome before after
+plays_push_from moment index first list (told.Pushed reached) before between after taken pushes =
+    record { notices = list; pushed = pushes ∙ ap (with_shard_step index (Push first list) (Pushed reached)) taken }
+plays_push_from moment index first list (told.Gap have from) before between after taken pushes =
+    record { notices = list; pushed = pushes ∙ ap (with_shard_step index (Push first list) (Gap have from)) taken }
+plays_push_from moment index first list outcome before between after taken pushes = absurd pushes
 
-module _ (old mid : WorldState) (index first from : ℕ) (list : List Notice)
+module _ (old mid : WorldState) (first from : ℕ) (list : List Notice)
     (answers : (history : History) → WorldRepresents old history → RealmAnswers history.realm (Take first) (Notices from list))
     (represents : (history : History) → WorldRepresents old history → WorldRepresents mid (with_realm_step (Take first) (Notices from list) history)) where
-  take_goes : Continues old mid (IsNext index first) (λ before after. Took first list before after × MayPush index first list after)
-  take_goes = realm_goes old mid (Take first) (Notices from list) (IsNext index first) (λ before after. Took first list before after × MayPush index first list after)
-      answers represents (λ before at right. (
-        record { is = ap (λ n. with_realm_step (Take first) (Notices n list) before) right.0; many = right.2 },
-        taken_may_be_pushed index first from list before at.holds right,
-      ))
+  take_goes : Continues old mid Any (Took first list)
+  take_goes = realm_goes old mid (Take first) (Notices from list) Any (Took first list) answers represents (λ before at right. took first from list before right)
 
-  pub next_ready : IsReady old (IsNext index first) → IsReady mid (MayPush index first list)
-  next_ready ready = goes_ready ready take_goes (λ before after at now. now.holds.1)
+  pub taken_numbered : IsReady old Any → AreNumbered first list
+  taken_numbered ready = notices_are_numbered (commands ready.0.realm) first list (answers ready.0 ready.1.represents).1
 
-  pub next_numbered : IsReady old (IsNext index first) → AreNumbered first list
-  next_numbered ready = notices_are_numbered (commands ready.0.realm) first list (answers ready.0 ready.1.represents).1
+  pub push_from_goes : (moment index : ℕ) (new : WorldState) (result : Result Outcome NoMemory)
+      → Continues mid new (WereTaken first list) (OrStops result (PushesTaken index first list))
+      → Continues old new Any (OrStops result (Plays moment (PushFrom index first)))
+  push_from_goes moment index new (Ok outcome) pushes = goes_twice take_goes pushes (λ before between at now. now.holds.announced) (λ before between after at now last.
+      plays_push_from moment index first list outcome before between after now.holds.is last.holds)
+  push_from_goes moment index new (Err none) pushes = goes_twice take_goes pushes (λ before between at now. now.holds.announced) (λ before between after at now last.
+      goes_on_from (subst (λ history. Extends before history) (sym now.holds.is) (asks_realm (Take first) (Notices first list) rests)) last.holds)
 
-  -- a push of what was taken, which is at least one notice, reaches beyond it
-  pub next_goes : (new : WorldState) (result : Result ℕ NoMemory) → index < length old.shards
-      → Continues mid new (MayPush index first list) (OrStops result (λ reached. Asks index (Push first list) (Pushed reached)))
-      → Continues old new (IsNext index first) (OrStops result (λ reached. TakesNext index first reached))
-  next_goes new (Ok reached) below pushes = goes_twice take_goes pushes (λ before between at now. now.holds.1) (λ before between after at now last.
-      let took = now.holds.0 in
-      let next = at.holds in
-      let asked = last.holds in
-      let traces = traces_of_shards old before at.represents in
-      let same : length between.shards ≡ length before.shards = ap (λ history. length history.shards) took.is in
-      let fed = subst IsFedHistory asked last.fed in
-      let tells = pushed_tells (shard_account pushed_events (trace_of index between)) given_rows first list reached (last_answer between index (Push first list) (Pushed reached) (omega arith) fed) in
-      let many = took.many in
+module _ (index first : ℕ) (before after : History) (below : index < length before.shards) (next : IsNext index first before) (fed : IsFedHistory after) where
+  -- the next notice that is due was announced, and so is taken and pushed
+  pushes_next : (reached : ℕ) → PlaysPushFrom index first (Pushed reached) before after → TakesNext index first reached before after
+  pushes_next reached plays =
+      let list = plays.notices in
+      let taken = with_realm_step (Take first) (Notices first list) before in
+      let fed_there = subst IsFedHistory plays.pushed fed in
+      let tells = pushed_tells (shard_account pushed_events (trace_of index taken)) given_rows first list reached (last_answer taken index (Push first list) (Pushed reached) below fed_there) in
+      let many : length list ≡ min max_taken (announced_count before.realm + 1 - first) = fed_there.realm.0.2 in
       let announced_to = next.announced in
       let some : 1 ≤ length list = omega arith in
-      record {
-        notices = list;
-        further = omega (arith, tells.1);
-        pushed = asked ∙ ap (with_shard_step index (Push first list) (Pushed reached)) took.is;
-      })
-  next_goes new (Err none) below pushes = goes_twice take_goes pushes (λ before between at now. now.holds.1) (λ before between after at now last.
-      let first_step : Extends before between = subst (λ history. Extends before history) (sym now.holds.0.is) (asks_realm (Take first) (Notices first list) rests) in
-      goes_on_from first_step last.holds)
+      record { notices = list; further = omega (arith, tells.1); pushed = plays.pushed }
+
+  -- it doesn't stand past itself
+  no_gap : (have from : ℕ) → PlaysPushFrom index first (Gap have from) before after → ⊥
+  no_gap have from plays =
+      let list = plays.notices in
+      let taken = with_realm_step (Take first) (Notices first list) before in
+      let place = position_of (trace_of index before) in
+      let due = next.position in
+      go (nat_lt (place + 1) first) (le-ltb (place + 1) first (omega arith))
+      (last_answer taken index (Push first list) (Gap have from) below (subst IsFedHistory plays.pushed fed))
+    where
+      go : (past : Bool) → past ≡ false → MatchBool past (Gap have from ≡ Gap (position_of (trace_of index before)) first)
+          (OrNoMemory (Gap have from) (Gap have from ≡ Pushed (max (position_of (trace_of index before)) (first + length plays.notices - 1)))) → ⊥
+      go true past answers = cc
+      go false past (inl answers) = cc
+      go false past (inr answers) = cc
+
+module _ (old new : WorldState) (index first : ℕ) (below : index < length old.shards) where
+  below_there : (before : History) → IsAt old (IsNext index first) before → index < length before.shards
+  below_there before at = let traces = traces_of_shards old before at.represents in omega arith
+
+  pub next_goes : (moment reached : ℕ) → Continues old new Any (Plays moment (PushFrom index first) (told.Pushed reached))
+      → Continues old new (IsNext index first) (TakesNext index first reached)
+  next_goes moment reached pushes before at =
+      let there = goes_when (λ history holds. tt) pushes before at in
+      let now = there.1 in
+      (there.0, record { represents = now.represents; fed = now.fed; holds = pushes_next index first before there.0 (below_there before at) at.holds now.fed reached now.holds })
+
+  pub next_is_pushed : (moment : ℕ) (outcome : Outcome) → IsReady old (IsNext index first) → Continues old new Any (Plays moment (PushFrom index first) outcome)
+      → ((reached : ℕ) → outcome ≡ told.Pushed reached → ⊥) → ⊥
+  next_is_pushed moment (told.Pushed reached) ready pushes none = none reached refl
+  next_is_pushed moment (told.Gap have from) ready pushes none =
+      let there = goes_when (λ history holds. tt) pushes ready.0 ready.1 in
+      no_gap index first ready.0 there.0 (below_there ready.0 ready.1) ready.1.holds there.1.fed have from there.1.holds
+  next_is_pushed moment outcome ready pushes none = absurd (goes_when (λ history holds. tt) pushes ready.0 ready.1).1.holds
 
 -- a shard that represents at a position that isn't enough lacks the next notice
 pub due_next : (index need have : ℕ) (history : History) → have < need → IsDue index need have history → IsNext index (have + 1) history

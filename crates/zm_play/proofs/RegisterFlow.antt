@@ -31,7 +31,7 @@ use Rattle.zw_laws.proofs.FedSteps.{fed_steps_stay_fed, length-with_step_at}
 use Rattle.zs_script.specs.declared.step.Step.TheVariants.{Register}
 use Rattle.zm_text.specs.declared.outcome.Outcome.{Outcome}
 use Rattle.zm_text.specs.declared.outcome.Outcome.TheVariants.{FetchRefused, Finished, BadQueue}
-use Rattle.zm_text.specs.Playing.{CatchesUp, Plays, PlaysRegister, PlaysRefusedFetch, Round, TakesAndPushes, moment, salt, sections, serving, with_fetches, with_opening}
+use Rattle.zm_text.specs.Playing.{CatchesUp, Plays, PlaysRegister, PlaysRefusedFetch, Round, TakesAndPushes, salt, sections, serving, with_fetches, with_opening}
 use Rattle.zm_text.proofs.Fetches.{fetched_parts, fetches_commands, fetches_shards, needed_within, none_missing, were_fetched}
 use Rattle.zm_play.specs.Flows.{Any, Asks, Completes, Continues, Extends, FetchesAll, Finishes, IsAt, IsReady, MayCatchUp, MayComplete, MayDelete, MayFinish, OrStops, Registers, WasOpened, queue_in, trace_of}
 use Rattle.zm_play.specs.Flows.Extends.{rests, asks_shard}
@@ -217,16 +217,16 @@ module _ (index : ℕ) (queue : QueueId) where
 
 module _ (index : ℕ) (user : UserId) (asked : List Section) (queue : QueueId) (have : ℕ) where
   -- a queue that was just opened
-  pub record IsOpened (types : Types) (history : History) : Type 0 where
+  pub record IsOpened (moment : ℕ) (types : Types) (history : History) : Type 0 where
     pub position : position_of (trace_of index history) ≡ have
     pub account : queue_in index queue history ≡ opened_account types asked have moment
     pub own : queue.user ≡ user
     pub committed : have ≤ commits history.realm
 
   -- the queue was opened at the shard that serves the user
-  module _ (world : WorldState) (history start : History) (types : Types) (represents : WorldRepresents world history)
+  module _ (world : WorldState) (history start : History) (moment : ℕ) (types : Types) (represents : WorldRepresents world history)
       (index_is : index ≡ shard_of (length world.shards) user) (below : index < length world.shards)
-      (opens : history ≡ with_opening user types asked queue have start) where
+      (opens : history ≡ with_opening moment user types asked queue have start) where
     abbrev pub opening_step : ShardStep
     opening_step = record { input = Start user salt moment types asked; reply = Opened queue have }
 
@@ -242,7 +242,7 @@ module _ (index : ℕ) (user : UserId) (asked : List Section) (queue : QueueId) 
     below_there : index < length start.shards
     below_there = let traces = traces_of_shards world history represents in omega (arith, as_many)
 
-    pub is_opened : IsFedHistory history → IsOpened types history
+    pub is_opened : IsFedHistory history → IsOpened moment types history
     is_opened fed =
         let trace_is : trace_of index history ≡ opening_step ∷ trace_of index start = ap (trace_of index) opened_there ∙ trace_at-with_step_at index opening_step start.shards below_there in
         let tells = opened_tells (shard_account pushed_events (trace_of index start)) given_rows user salt moment types asked queue have
@@ -267,8 +267,9 @@ module _ (index : ℕ) (user : UserId) (asked : List Section) (queue : QueueId) 
       may_complete : (before between : History) → IsAt old (WasOpened user asked queue have) before
           → IsAt mid (FetchesAll user asked (Some parts) before) between → MayComplete index queue have parts between
       may_complete before between at now =
-          let types = at.holds.0 in
-          let is = is_opened old before at.holds.1 types at.represents index_is below at.holds.2 at.fed in
+          let moment = at.holds.0 in
+          let types = at.holds.1 in
+          let is = is_opened old before at.holds.2 moment types at.represents index_is below at.holds.3 at.fed in
           let fetches = now.holds.1 in
           let in_order = now.holds.0 in
           let are = fetched_parts user parts before (subst (λ h. IsLegalRealm h.realm) fetches now.fed.realm) in
@@ -300,18 +301,18 @@ module _ (index : ℕ) (user : UserId) (asked : List Section) (queue : QueueId) 
         fill_ready ready = goes_ready ready fetches_when may_complete
 
         -- a completed registration is played from its start
-        flow : (before between after start : History) (types : Types) (reply : ShardReply) (position : ℕ) (caught : History)
+        flow : (before between after start : History) (moment : ℕ) (types : Types) (reply : ShardReply) (position : ℕ) (caught : History)
             → IsAt old (WasOpened user asked queue have) before → IsAt mid (FetchesAll user asked (Some parts) before) between
-            → before ≡ with_opening user types asked queue have start
+            → before ≡ with_opening moment user types asked queue have start
             → CatchesUp index (commits between.realm) have between position caught
             → after ≡ with_shard_step index (Finish queue parts) reply caught
-            → PlaysRegister user types asked queue reply start after
-        flow before between after start types reply position caught at now opens catches asks =
+            → PlaysRegister moment user types asked queue reply start after
+        flow before between after start moment types reply position caught at now opens catches asks =
             let fetched = now.holds.1 in
             let may = may_complete before between at now in
             let are = fetched_parts user parts before (subst (λ h. IsLegalRealm h.realm) fetched now.fed.realm) in
             let within = needed_within user (commands before.realm) asked parts are in
-            let at_start = served old before start types at.represents index_is below opens in
+            let at_start = served old before start moment types at.represents index_is below opens in
             let traces = traces_of_shards old before at.represents in
             let many : length between.shards ≡ length before.shards = ap (λ h. length h.shards) fetched ∙ ap (λ shards. length shards) (fetches_shards user parts before) in
             let kept = catches_keep index queue (commits between.realm) have between position caught (omega arith) catches may.position in
@@ -319,15 +320,15 @@ module _ (index : ℕ) (user : UserId) (asked : List Section) (queue : QueueId) 
             let as_before : commits before.realm ≡ commits start.realm = ap (λ h. commits h.realm) opens in
             let as_between : commits between.realm ≡ commits before.realm = ap (λ h. commits h.realm) fetched ∙ ap (λ list. length list) (fetches_commands user parts before) in
             let need_is : commits between.realm ≡ max (needed asked parts) (commits start.realm) = omega arith in
-            let fetched_there : between ≡ with_fetches user parts (with_opening user types asked queue have start) = fetched ∙ ap (with_fetches user parts) opens in
+            let fetched_there : between ≡ with_fetches user parts (with_opening moment user types asked queue have start) = fetched ∙ ap (with_fetches user parts) opens in
             record {
               have = have;
               parts = parts;
               position = position;
               caught = caught;
               in_order = now.holds.0;
-              catches_up = subst (λ n. CatchesUp n (max (needed asked parts) (commits start.realm)) have (with_fetches user parts (with_opening user types asked queue have start)) position caught) (sym at_start)
-                  (subst (λ n. CatchesUp index n have (with_fetches user parts (with_opening user types asked queue have start)) position caught) need_is
+              catches_up = subst (λ n. CatchesUp n (max (needed asked parts) (commits start.realm)) have (with_fetches user parts (with_opening moment user types asked queue have start)) position caught) (sym at_start)
+                  (subst (λ n. CatchesUp index n have (with_fetches user parts (with_opening moment user types asked queue have start)) position caught) need_is
                   (subst (λ h. CatchesUp index (commits between.realm) have h position caught) fetched_there catches));
               finishes = asks ∙ ap (λ n. with_shard_step n (Finish queue parts) reply caught) (sym at_caught);
             }
@@ -336,11 +337,11 @@ module _ (index : ℕ) (user : UserId) (asked : List Section) (queue : QueueId) 
             → IsAt mid (FetchesAll user asked (Some parts) before) between
             → (position : ℕ) (caught : History) → CatchesUp index (commits between.realm) have between position caught
             → Finishes index queue parts outcome caught after → Registers user asked queue have outcome before after
-        completes_registers (Finished reached other last state) before between after at now position caught catches finishes = λ types start opens.
-            subst (λ q. PlaysRegister user types asked q (finished state last reached) start after) (sym finishes.0)
-            (flow before between after start types (finished state last reached) position caught at now opens catches finishes.1)
-        completes_registers BadQueue before between after at now position caught catches finishes = λ types start opens.
-            (queue, flow before between after start types bad_queue position caught at now opens catches finishes)
+        completes_registers (Finished reached other last state) before between after at now position caught catches finishes = λ moment types start opens.
+            subst (λ q. PlaysRegister moment user types asked q (finished state last reached) start after) (sym finishes.0)
+            (flow before between after start moment types (finished state last reached) position caught at now opens catches finishes.1)
+        completes_registers BadQueue before between after at now position caught catches finishes = λ moment types start opens.
+            (queue, flow before between after start moment types bad_queue position caught at now opens catches finishes)
         completes_registers outcome before between after at now position caught catches finishes = absurd finishes
 
         -- where it was completed, the registration is played
@@ -360,7 +361,7 @@ module _ (index : ℕ) (user : UserId) (asked : List Section) (queue : QueueId) 
           → IsAt mid (FetchesAll user asked None before) between → MayDelete index user queue between
       may_delete before between at now =
           let refused = now.holds in
-          let is = is_opened old before at.holds.1 at.holds.0 at.represents index_is below at.holds.2 at.fed in
+          let is = is_opened old before at.holds.2 at.holds.0 at.holds.1 at.represents index_is below at.holds.3 at.fed in
           let same_shards : between.shards ≡ before.shards = ap (λ h. h.shards) refused.refused ∙ fetches_shards user refused.parts before in
           let trace_is : trace_of index between ≡ trace_of index before = ap (λ shards. trace_at index shards) same_shards in
           record {
@@ -376,7 +377,7 @@ module _ (index : ℕ) (user : UserId) (asked : List Section) (queue : QueueId) 
       -- where it was deleted, the registration is played
       pub refused_goes : (new : WorldState) → Continues mid new (MayDelete index user queue) (Asks index (Delete user queue) Deleted)
           → Continues old new (WasOpened user asked queue have) (Registers user asked queue have FetchRefused)
-      refused_goes new deletes = goes_twice refuses_when deletes may_delete (λ before between after at now last. λ types start opens.
+      refused_goes new deletes = goes_twice refuses_when deletes may_delete (λ before between after at now last. λ moment types start opens.
           let refused = now.holds in
           let same_shards : between.shards ≡ before.shards = ap (λ h. h.shards) refused.refused ∙ fetches_shards user refused.parts before in
           let at_between : shard_of (length between.shards) user ≡ index = ap (λ shards. shard_of (length shards) user) same_shards ∙ serves old before user index at.represents index_is in
@@ -388,15 +389,15 @@ module _ (index : ℕ) (user : UserId) (asked : List Section) (queue : QueueId) 
             deletes = last.holds ∙ ap (λ n. with_shard_step n (Delete user queue) Deleted between) (sym at_between);
           })
 
-module _ (old mid : WorldState) (user : UserId) (types : Types) (asked : List Section) (queue : QueueId) (have : ℕ)
-    (opens : Continues old mid Any (λ before after. after ≡ with_opening user types asked queue have before)) where
+module _ (old mid : WorldState) (moment : ℕ) (user : UserId) (types : Types) (asked : List Section) (queue : QueueId) (have : ℕ)
+    (opens : Continues old mid Any (λ before after. after ≡ with_opening moment user types asked queue have before)) where
   -- a queue that was opened may be filled
   pub register_ready : IsReady old Any → IsReady mid (WasOpened user asked queue have)
-  register_ready ready = goes_ready ready opens (λ before after at now. (types, before, now.holds))
+  register_ready ready = goes_ready ready opens (λ before after at now. (moment, types, before, now.holds))
 
   -- where it was filled, the registration is played
   pub register_goes : (new : WorldState) (result : Result Outcome NoMemory) → Continues mid new (WasOpened user asked queue have) (OrStops result (Registers user asked queue have))
-      → Continues old new Any (OrStops result (Plays (Register user types asked)))
-  register_goes new (Ok outcome) goes = goes_twice opens goes (λ before between at now. (types, before, now.holds)) (λ before between after at now last. last.holds types before now.holds)
-  register_goes new (Err none) stops = goes_twice opens stops (λ before between at now. (types, before, now.holds)) (λ before between after at now last.
+      → Continues old new Any (OrStops result (Plays moment (Register user types asked)))
+  register_goes new (Ok outcome) goes = goes_twice opens goes (λ before between at now. (moment, types, before, now.holds)) (λ before between after at now last. last.holds moment types before now.holds)
+  register_goes new (Err none) stops = goes_twice opens stops (λ before between at now. (moment, types, before, now.holds)) (λ before between after at now last.
       goes_on_from (subst (λ h. Extends before h) (sym now.holds) (asks_shard (serving user before) (Start user salt moment types asked) (Opened queue have) rests)) last.holds)

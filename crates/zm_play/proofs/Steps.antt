@@ -74,6 +74,10 @@ goes_ready ready goes so =
     let now = moved.1 in
     (moved.0, record { represents = now.represents; fed = now.fed; holds = so before moved.0 ready.1 now })
 
+-- some history is there
+pub ready_any : {world : WorldState} {claim : History → Type 0} → IsReady world claim → IsReady world Any
+ready_any ready = (ready.0, record { represents = ready.1.represents; fed = ready.1.fed; holds = tt })
+
 -- the world goes on twice
 pub goes_twice : {old mid new : WorldState} {claim claim' : History → Type 0} {follows follows' all : History → History → Type 0}
     → Continues old mid claim follows → Continues mid new claim' follows'

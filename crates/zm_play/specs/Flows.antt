@@ -2,6 +2,7 @@
 use Rattle.std.specs.Prelude.{◌≡◌, ℕ, ◌+◌, ◌≤◌, true, Option, None, Some, List, Result, Ok, Err}
 use Rattle.ev_base.specs.declared.ids.UserId.{UserId}
 use Rattle.ev_base.specs.declared.ids.QueueId.{QueueId}
+use Rattle.ev_base.specs.declared.expired.Expired.{Expired}
 use Rattle.ev_rows.specs.declared.memory.NoMemory.{NoMemory}
 use Rattle.ev_types.specs.declared.kind.Types.{Types}
 use Rattle.ev_types.specs.declared.section.Section.{Section}
@@ -25,7 +26,7 @@ use Rattle.zw_traces.specs.Histories.{History, IsFedHistory, MayBeAsked, trace_a
 use Rattle.zw_world.specs.Worlds.{WorldState, WorldRepresents}
 use Rattle.zs_script.specs.declared.step.Step.TheVariants.{Register}
 use Rattle.zm_text.specs.declared.outcome.Outcome.{Outcome}
-use Rattle.zm_text.specs.declared.outcome.Outcome.TheVariants.{Finished, BadQueue}
+use Rattle.zm_text.specs.declared.outcome.Outcome.TheVariants.{Finished, BadQueue, Pushed, Gap}
 use Rattle.zm_text.specs.Playing.{CatchesUp, Plays, PlaysRefusedFetch, Round, TakesAndPushes, sections, with_fetch, with_fetches, with_opening}
 
 -- the world represents this history, which is fed, and the claim holds of it
@@ -89,10 +90,9 @@ pub record IsNext (index first : ℕ) (history : History) : Type 0 where
   pub position : position_of (trace_of index history) + 1 ≡ first
   pub announced : first ≤ announced_count history.realm
 
--- these are announced notices, and the first of them is the next that is due
-pub record MayPush (index first : ℕ) (notices : List Notice) (history : History) : Type 0 where
-  pub position : position_of (trace_of index history) + 1 ≡ first
-  pub announced : AreAnnounced history.realm first notices
+-- of which queue this is told
+abbrev pub queue_of : Expired → QueueId
+queue_of expired = expired.queue
 
 -- a shard was asked and answered
 abbrev pub Asks : ℕ → ShardInput → ShardReply → History → History → Type 0
@@ -105,19 +105,30 @@ pub record TakesNext (index first : ℕ) (reached : ℕ) (before after : History
   pub pushed : Asks index (shard.Push first notices) (shard_reply.Pushed reached)
       (with_realm_step (Take first) (Notices first notices) before) after
 
+-- these are announced notices
+abbrev pub WereTaken : ℕ → List Notice → History → Type 0
+WereTaken first notices history = AreAnnounced history.realm first notices
+
+-- notices are pushed, or begin past the next one that is due
+abbrev pub PushesTaken : ℕ → ℕ → List Notice → Outcome → History → History → Type 0
+PushesTaken index first notices (Pushed reached) before after = Asks index (shard.Push first notices) (shard_reply.Pushed reached) before after
+PushesTaken index first notices (Gap have from) before after = Asks index (shard.Push first notices) (shard_reply.Gap have from) before after
+PushesTaken index first notices outcome before after = ⊥
+
 -- takes and pushes from one position on until what is needed
 abbrev pub TakesUpTo : ℕ → ℕ → ℕ → ℕ → History → History → Type 0
 TakesUpTo index need have reached before after = (rounds : List Round) × TakesAndPushes index need have rounds before reached after
 
 -- the queue was opened for the user in the latest step, to be finished with these sections
 abbrev pub WasOpened : UserId → List Section → QueueId → ℕ → History → Type 0
-WasOpened user asked queue have history = (types : Types) × (start : History) × (history ≡ with_opening user types asked queue have start)
+WasOpened user asked queue have history =
+    (moment : ℕ) × (types : Types) × (start : History) × (history ≡ with_opening moment user types asked queue have start)
 
 -- so the registration is played from where the queue was opened
 abbrev pub Registers : UserId → List Section → QueueId → ℕ → Outcome → History → History → Type 0
 Registers user asked queue have outcome before after =
-    (types : Types) (start : History) → (before ≡ with_opening user types asked queue have start)
-    → Plays (Register user types asked) outcome start after
+    (moment : ℕ) (types : Types) (start : History) → (before ≡ with_opening moment user types asked queue have start)
+    → Plays moment (Register user types asked) outcome start after
 
 -- the queue is known, and once its shard has caught up may be finished with these sections
 pub record MayComplete (index : ℕ) (queue : QueueId) (have : ℕ) (parts : List FetchedSection) (history : History) : Type 0 where

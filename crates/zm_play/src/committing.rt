@@ -10,23 +10,23 @@ ghost use Rattle.zm_play.specs.Flows.{Any, Continues, OrStops};
 
 use ev_base::{NoMemory, UserId};
 use std::alloc::Global;
-use zm_text::{MOMENT, Outcome};
+use zm_text::Outcome;
 use zr_types::Command;
 use zw_traces::{RealmInput, RealmReply};
 use zw_world::World;
 
-/// Asks for a change.
+/// Asks for a change at a moment.
 pub fn commit(
     world: &mut World,
     alloc: Global,
+    moment: u64,
     actor: UserId,
     command: Command,
 ) -> Result<Outcome, NoMemory>
     ensures continues { Continues world.old world.new Any
-        (OrStops result (Plays (Step.Command actor command))) }
+        (OrStops result (Plays moment (Step.Command actor command))) }
     ensures shards { length world.new.shards ≡ length world.old.shards }
 {
-    let moment = MOMENT;
     match world.ask_realm(
         alloc,
         RealmInput::Commit {

@@ -1,6 +1,6 @@
 //! Fetching sections of a user's view.
 
-ghost use Rattle.std.specs.Prelude.{◌≡◌, length};
+ghost use Rattle.std.specs.Prelude.{◌≡◌, ℕ, length};
 ghost use Rattle.zs_script.specs.declared.step.Step.{Step};
 ghost use Rattle.zm_text.specs.Playing.{Plays};
 ghost use Rattle.zm_play.specs.Flows.{Any, Continues, FetchesAll, FetchesOne, IsReady, OrStops};
@@ -29,7 +29,8 @@ const ALL_SECTIONS: [Section; 9] = [
 /// Shows all sections of a user's view, where the user is active.
 pub fn view(world: &mut World, alloc: Global, user: UserId) -> Result<Outcome, NoMemory>
     requires ready { IsReady world.old Any }
-    ensures continues { Continues world.old world.new Any (OrStops result (Plays (Step.View user))) }
+    ensures continues { (moment : ℕ) → Continues world.old world.new Any
+        (OrStops result (Plays moment (Step.View user))) }
     ensures shards { length world.new.shards ≡ length world.old.shards }
 {
     match fetch(world, alloc, user, &ALL_SECTIONS)? {

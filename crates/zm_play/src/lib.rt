@@ -7,6 +7,8 @@ mod player;
 mod polling;
 mod pushing;
 mod registering;
+mod sharding;
 mod states;
+mod ticking;
 
 pub use player::Player;

@@ -1,32 +1,32 @@
-//! Asking a queue for its items.
+//! What is asked of a queue that is held: its items, and its deletion.
 
-ghost use Rattle.std.specs.Prelude.{◌≡◌, length};
+ghost use Rattle.std.specs.Prelude.{◌≡◌, ℕ, length};
 ghost use Rattle.zs_script.specs.declared.step.Step.{Step};
 ghost use Rattle.zm_text.specs.Playing.{Plays};
 ghost use Rattle.zm_play.specs.Flows.{Any, Continues, OrStops};
 
 use ev_base::{NoMemory, QueueId, UserId};
 use std::alloc::Global;
-use zm_text::{MOMENT, Outcome};
+use zm_text::Outcome;
 use zw_traces::{ShardInput, ShardReply};
 use zw_world::World;
 
-/// Asks the user's shard for the items of a queue above an id, and with `beat` for a heartbeat where
-/// there is none.
+/// Asks the user's shard at a moment for the items of a queue above an id, and with `beat` for a
+/// heartbeat where there is none.
 pub fn poll(
     world: &mut World,
     alloc: Global,
+    moment: u64,
     user: UserId,
     queue: QueueId,
     after: i64,
     beat: bool,
 ) -> Result<Outcome, NoMemory>
     ensures continues { Continues world.old world.new Any
-        (OrStops result (Plays (Step.Poll user queue after beat))) }
+        (OrStops result (Plays moment (Step.Poll user queue after beat))) }
     ensures shards { length world.new.shards ≡ length world.old.shards }
 {
     let shard = world.serving(user);
-    let moment = MOMENT;
     match world.ask_shard(
         alloc,
         shard,
@@ -48,6 +48,20 @@ pub fn poll(
         ShardReply::NotSent { greatest } => Ok(Outcome::NotSent { greatest }),
         ShardReply::Pruned { newest } => Ok(Outcome::Pruned { newest }),
         ShardReply::NoMemory => Err(NoMemory),
+        _ => unreachable!(),
+    }
+}
+
+/// Deletes a queue of a user.
+pub fn delete_queue(world: &mut World, alloc: Global, user: UserId, queue: QueueId) -> Outcome
+    ensures continues { (moment : ℕ) → Continues world.old world.new Any
+        (Plays moment (Step.DeleteQueue user queue) result) }
+    ensures shards { length world.new.shards ≡ length world.old.shards }
+{
+    let shard = world.serving(user);
+    match world.ask_shard(alloc, shard, ShardInput::Delete { user, queue }) {
+        ShardReply::Deleted => Outcome::Deleted,
+        ShardReply::BadQueue => Outcome::BadQueue,
         _ => unreachable!(),
     }
 }

@@ -1,10 +1,10 @@
 //! Bringing announced notices to a shard.
 
-ghost use Rattle.std.specs.Prelude.{◌≡◌, ◌<◌, length};
+ghost use Rattle.std.specs.Prelude.{◌≡◌, ◌<◌, ◌≤◌, ℕ, length};
 ghost use Rattle.zs_script.specs.declared.step.Step.{Step};
 ghost use Rattle.zm_text.specs.Playing.{CatchesUp, Plays};
 ghost use Rattle.q_shard.specs.ShardInputs.{AreNumbered};
-ghost use Rattle.zm_play.specs.Flows.{Any, Asks, Continues, IsDue, IsNext, IsReady, MayCatchUp, MayPush, OrStops, TakesNext, TakesUpTo};
+ghost use Rattle.zm_play.specs.Flows.{Any, Asks, Continues, IsDue, IsNext, IsReady, MayCatchUp, OrStops, PushesTaken, TakesNext, TakesUpTo, WereTaken};
 
 use crate::committing::announce;
 use ev_base::{Listed, NoMemory};
@@ -18,7 +18,8 @@ use zw_world::World;
 pub fn push(world: &mut World, alloc: Global, shard: u32) -> Result<Outcome, NoMemory>
     requires index { shard < length world.old.shards }
     requires ready { IsReady world.old Any }
-    ensures continues { Continues world.old world.new Any (OrStops result (Plays (Step.Push shard))) }
+    ensures continues { (moment : ℕ) → Continues world.old world.new Any
+        (OrStops result (Plays moment (Step.Push shard))) }
     ensures shards { length world.new.shards ≡ length world.old.shards }
 {
     let have = locate(world, alloc, shard);
@@ -28,13 +29,56 @@ pub fn push(world: &mut World, alloc: Global, shard: u32) -> Result<Outcome, NoM
 }
 
 /// Asks a shard how many notices were pushed to it.
-fn locate(world: &mut World, alloc: Global, shard: u32) -> u64
+pub fn locate(world: &mut World, alloc: Global, shard: u32) -> u64
     requires index { shard < length world.old.shards }
     ensures continues { Continues world.old world.new Any (Asks shard ShardInput.Locate (ShardReply.At result)) }
     ensures shards { length world.new.shards ≡ length world.old.shards }
 {
     match world.ask_shard(alloc, shard, ShardInput::Locate) {
         ShardReply::At { position } => position,
+        _ => unreachable!(),
+    }
+}
+
+/// Brings a shard announced notices from one on, as many as are taken at once.
+pub fn push_from(
+    world: &mut World,
+    alloc: Global,
+    shard: u32,
+    first: u64,
+) -> Result<Outcome, NoMemory>
+    requires index { shard < length world.old.shards }
+    requires from_one { 1 ≤ first }
+    requires ready { IsReady world.old Any }
+    ensures continues { (moment : ℕ) → Continues world.old world.new Any
+        (OrStops result (Plays moment (Step.PushFrom shard first))) }
+    ensures shards { length world.new.shards ≡ length world.old.shards }
+{
+    match world.ask_realm(alloc, RealmInput::Take { first }) {
+        RealmReply::Notices { list, .. } => push_taken(world, alloc, shard, first, list),
+        RealmReply::NoMemory => Err(NoMemory),
+        _ => unreachable!(),
+    }
+}
+
+/// Pushes notices that were taken, which may begin past the next one that is due.
+fn push_taken(
+    world: &mut World,
+    alloc: Global,
+    shard: u32,
+    first: u64,
+    notices: Listed<Notice>,
+) -> Result<Outcome, NoMemory>
+    requires index { shard < length world.old.shards }
+    requires numbered { AreNumbered first notices }
+    ensures continues { Continues world.old world.new (WereTaken first notices)
+        (OrStops result (PushesTaken shard first notices)) }
+    ensures shards { length world.new.shards ≡ length world.old.shards }
+{
+    match world.ask_shard(alloc, shard, ShardInput::Push { first, notices }) {
+        ShardReply::Pushed { position } => Ok(Outcome::Pushed { position }),
+        ShardReply::Gap { have, first } => Ok(Outcome::Gap { have, first }),
+        ShardReply::NoMemory => Err(NoMemory),
         _ => unreachable!(),
     }
 }
@@ -82,7 +126,7 @@ fn take_and_push(
     Ok(reached)
 }
 
-/// Takes the notices from one on, and pushes them.
+/// Takes the notices from the next one that is due on, and pushes them.
 fn push_next(world: &mut World, alloc: Global, shard: u32, first: u64) -> Result<u64, NoMemory>
     requires index { shard < length world.old.shards }
     requires ready { IsReady world.old (IsNext shard first) }
@@ -90,31 +134,8 @@ fn push_next(world: &mut World, alloc: Global, shard: u32, first: u64) -> Result
         (OrStops result (λ reached. TakesNext shard first reached)) }
     ensures shards { length world.new.shards ≡ length world.old.shards }
 {
-    match world.ask_realm(alloc, RealmInput::Take { first }) {
-        RealmReply::Notices { list, .. } => push_notices(world, alloc, shard, first, list),
-        RealmReply::NoMemory => Err(NoMemory),
-        _ => unreachable!(),
-    }
-}
-
-/// Pushes announced notices.
-fn push_notices(
-    world: &mut World,
-    alloc: Global,
-    shard: u32,
-    first: u64,
-    notices: Listed<Notice>,
-) -> Result<u64, NoMemory>
-    requires index { shard < length world.old.shards }
-    requires numbered { AreNumbered first notices }
-    requires ready { IsReady world.old (MayPush shard first notices) }
-    ensures continues { Continues world.old world.new (MayPush shard first notices)
-        (OrStops result (λ reached. Asks shard (ShardInput.Push first notices) (ShardReply.Pushed reached))) }
-    ensures shards { length world.new.shards ≡ length world.old.shards }
-{
-    match world.ask_shard(alloc, shard, ShardInput::Push { first, notices }) {
-        ShardReply::Pushed { position } => Ok(position),
-        ShardReply::NoMemory => Err(NoMemory),
+    match push_from(world, alloc, shard, first)? {
+        Outcome::Pushed { position } => Ok(position),
         _ => unreachable!(),
     }
 }

@@ -13,26 +13,27 @@ use crate::pushing::catch_up;
 use ev_base::{Listed, NoMemory, QueueId, UserId};
 use ev_types::{Section, Types};
 use std::alloc::Global;
-use zm_text::{MOMENT, Outcome, SALT};
+use zm_text::{Outcome, SALT};
 use zw_traces::{FetchedSection, ShardInput, ShardReply};
 use zw_world::World;
 
-/// Registers a user at the shard that serves it.
+/// Registers a user at a moment, at the shard that serves it.
 pub fn register(
     world: &mut World,
     alloc: Global,
+    moment: u64,
     user: UserId,
     types: Types,
     asked: Listed<Section>,
 ) -> Result<Outcome, NoMemory>
     requires ready { IsReady world.old Any }
     ensures continues { Continues world.old world.new Any
-        (OrStops result (Plays (Step.Register user types asked))) }
+        (OrStops result (Plays moment (Step.Register user types asked))) }
     ensures shards { length world.new.shards ≡ length world.old.shards }
 {
     let shard = world.serving(user);
     let sections = copied(alloc, asked.as_slice())?;
-    let (salt, moment) = (SALT, MOMENT);
+    let salt = SALT;
     match world.ask_shard(
         alloc,
         shard,

@@ -9,14 +9,14 @@ pub fill-requires : goal.fill-requires
 fill-requires c =
     let same : c.deref.result.now ≡ c.args.asked = c.deref.ensures.value ∙ c.in_ok-sections.ensures ∙ c.as_slice.ensures in
     record {
-      ready = rw same (register_ready _ _ c.args.user c.args.types c.args.asked c.in-Opened.queue c.in-Opened.position (user_goes _ _ c.args.user _ _ _ _ c.serving-shard.ensures.index c.serving-shard.ensures.below
+      ready = rw same (register_ready _ _ c.args.moment c.args.user c.args.types c.args.asked c.in-Opened.queue c.in-Opened.position (user_goes _ _ c.args.user _ _ _ _ c.serving-shard.ensures.index c.serving-shard.ensures.below
           c.in-Opened.ensures.reply c.in-Opened.ensures.represents (λ before served. record { fed = tt; parted = tt; served = served }) (λ before. refl)) c.requires.ready);
     }
 
 pub returns-in-Opened-clause-continues : goal.returns-in-Opened-clause-continues
 returns-in-Opened-clause-continues c =
     let same : c.deref.result.now ≡ c.args.asked = c.deref.ensures.value ∙ c.in_ok-sections.ensures ∙ c.as_slice.ensures in
-    register_goes _ _ c.args.user c.args.types c.args.asked c.in-Opened.queue c.in-Opened.position (user_goes _ _ c.args.user _ _ _ _ c.serving-shard.ensures.index c.serving-shard.ensures.below
+    register_goes _ _ c.args.moment c.args.user c.args.types c.args.asked c.in-Opened.queue c.in-Opened.position (user_goes _ _ c.args.user _ _ _ _ c.serving-shard.ensures.index c.serving-shard.ensures.below
     c.in-Opened.ensures.reply c.in-Opened.ensures.represents (λ before served. record { fed = tt; parted = tt; served = served }) (λ before. refl)) _ _ (rw same at c.fill.ensures.continues)
 
 pub returns-in-OpensSpent-clause-continues : goal.returns-in-OpensSpent-clause-continues
