@@ -1,24 +1,22 @@
 -- What users hear, part by part, and what a tick leaves them.
-use Rattle.std.proofs.Common.{◌≡◌, ℕ, zero, suc, slice_get, ◌+◌, ◌<◌, Bool, true, false, cond, ◌||◌, ◌==◌, get_or, length, drop, drop-cons, List, [], ◌∷◌, ◌++◌, append_assoc, Option, None, Some, MatchOption, option_map, nat_eq, add-one, not, refl, ap, sym, subst, ◌∙◌, arith, inl, inr, ◌⊎◌, map, flat_map}
-use Rattle.std.proofs.lemmas.Bool.{false≢true}
+use Rattle.std.proofs.Common.{◌≡◌, ℕ, zero, suc, slice_get, ◌+◌, ◌<◌, Bool, true, false, cond, ◌||◌, ◌==◌, get_or, length, drop, drop-cons, List, [], ◌∷◌, ◌++◌, append_assoc, Option, None, Some, MatchOption, option_map, nat_eq, add-one, refl, ap, sym, ◌∙◌, arith, inl, inr, ◌⊎◌, flat_map}
 use Rattle.std.proofs.lemmas.List.Concat.{flat_map-cons}
 use Rattle.std.proofs.lemmas.List.Elements.{filter_map-append}
 use Rattle.std.proofs.lemmas.Option.{none-some}
 use Rattle.std.specs.Option.{option_eq, option_map_or}
 use Rattle.std.specs.List.{cons_option}
-use Rattle.std.specs.Map.{keys_of, lookup}
+use Rattle.std.specs.Map.{keys_of}
 use Rattle.ev_rows.specs.Rows.{only_if}
 use Rattle.ev_base.specs.declared.ids.UserId.{UserId}
 use Rattle.ev_base.specs.declared.ids.QueueId.{QueueId}
 use Rattle.ev_types.specs.declared.event.Event.{Event}
-use Rattle.ev_types.specs.declared.notice.Audience.{Audience}
 use Rattle.ev_types.specs.declared.notice.Audience.TheVariants.{Only}
 use Rattle.ev_types.specs.declared.notice.Part.{Part}
 use Rattle.ev_types.specs.declared.notice.Notice.{Notice}
 use Rattle.ev_types.specs.Audiences.{events_for, has_user}
 use Rattle.zw_traces.specs.Account.{same_user}
 use Rattle.zw_traces.proofs.Steps.{same_user_is, same_user_itself}
-use Rattle.q_shard.specs.Hearing.{HeardParts, events_heard, has_queue, heard_events, with_part, with_part_for}
+use Rattle.q_shard.specs.Hearing.{HeardParts, has_queue, heard_events, with_part, with_part_for}
 
 -- nothing was heard yet
 abbrev pub nothing : HeardParts

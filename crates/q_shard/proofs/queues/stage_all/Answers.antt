@@ -1,8 +1,7 @@
-use Rattle.std.proofs.Common.{◌≡◌, ℕ, ◌+◌, Some, true, refl, flat_map, ap, sym, ◌∙◌, arith, List, length, slice_get, suc}
+use Rattle.std.proofs.Common.{◌≡◌, ℕ, ◌+◌, Some, refl, flat_map, ap, sym, ◌∙◌, arith, List, length, slice_get, suc}
 use Rattle.indexmap.specs.IndexMap.{set_value_at}
 use Rattle.indexmap.specs.Layout.{length-set_value_at}
 use Rattle.ev_base.specs.declared.ids.QueueId.{QueueId}
-use Rattle.std.specs.Map.{keys_of}
 use Rattle.ev_types.specs.declared.event.Event.{Event}
 use Rattle.ev_types.specs.Audiences.{events_for}
 use Rattle.q_shard.specs.Hearing.{events_heard, has_queue}

@@ -1,7 +1,6 @@
-use Rattle.std.proofs.Common.{◌≡◌, Some, cond, ap, sym, subst, ◌∙◌, refl, is_some, true}
+use Rattle.std.proofs.Common.{◌≡◌, Some, cond, ap, sym, ◌∙◌, is_some}
 use Rattle.std.specs.Option.{option_copied_mut}
 use Rattle.std.specs.Map.{lookup}
-use Rattle.ev_base.specs.declared.ids.UserId.{UserId}
 use Rattle.zw_traces.specs.Account.{same_user}
 use Rattle.q_shard.specs.Hearing.{HeardParts}
 use Rattle.q_shard.proofs.HearingLemmas.{told_one}
