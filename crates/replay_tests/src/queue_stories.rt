@@ -21,7 +21,8 @@ push 0
 poll 2 2.0 -1
 ";
 
-const AN_OPPOSITE_CHANGE_TOLD: &str = r##"finished 8 {"last_event_id":-1,"msg":"","queue_id":"00000002-0000-0000-0000-000000000000","result":"success","zulip_feature_level":1}
+const AN_OPPOSITE_CHANGE_TOLD: &str =
+    r##"finished 8 {"last_event_id":-1,"msg":"","queue_id":"00000002-0000-0000-0000-000000000000","result":"success","zulip_feature_level":1}
 committed 9
 committed 10
 committed 11
@@ -40,7 +41,8 @@ push 0
 poll 2 2.0 -1
 ";
 
-const A_REACTION_BETWEEN_TOLD: &str = r##"finished 8 {"last_event_id":-1,"msg":"","queue_id":"00000002-0000-0000-0000-000000000000","result":"success","zulip_feature_level":1}
+const A_REACTION_BETWEEN_TOLD: &str =
+    r##"finished 8 {"last_event_id":-1,"msg":"","queue_id":"00000002-0000-0000-0000-000000000000","result":"success","zulip_feature_level":1}
 committed 9
 committed 10
 committed 11
@@ -69,7 +71,8 @@ beat 2 2.0 1
 poll 2 2.0 2
 ";
 
-const A_CUT_BY_AN_ANSWER_TOLD: &str = r##"finished 8 {"last_event_id":-1,"msg":"","queue_id":"00000002-0000-0000-0000-000000000000","result":"success","zulip_feature_level":1}
+const A_CUT_BY_AN_ANSWER_TOLD: &str =
+    r##"finished 8 {"last_event_id":-1,"msg":"","queue_id":"00000002-0000-0000-0000-000000000000","result":"success","zulip_feature_level":1}
 committed 9
 noticed 9
 pushed 9
@@ -96,7 +99,8 @@ tick 1199
 poll 2 2.0 -1
 ";
 
-const AN_EXPIRY_TOLD: &str = r##"finished 8 {"last_event_id":-1,"msg":"","queue_id":"00000002-0000-0000-0000-000000000000","result":"success","zulip_feature_level":1}
+const AN_EXPIRY_TOLD: &str =
+    r##"finished 8 {"last_event_id":-1,"msg":"","queue_id":"00000002-0000-0000-0000-000000000000","result":"success","zulip_feature_level":1}
 ticked 0
 empty 8
 ticked 0
@@ -112,7 +116,8 @@ delete_queue 2 2.0
 poll 2 2.0 -1
 ";
 
-const A_DELETION_TOLD: &str = r##"finished 8 {"last_event_id":-1,"msg":"","queue_id":"00000002-0000-0000-0000-000000000000","result":"success","zulip_feature_level":1}
+const A_DELETION_TOLD: &str =
+    r##"finished 8 {"last_event_id":-1,"msg":"","queue_id":"00000002-0000-0000-0000-000000000000","result":"success","zulip_feature_level":1}
 bad_queue
 deleted
 bad_queue
@@ -150,7 +155,8 @@ push 0
 poll 1 1.0 -1
 ";
 
-const TIME_OF_MESSAGES_TOLD: &str = r##"finished 8 {"last_event_id":-1,"msg":"","queue_id":"00000001-0000-0000-0000-000000000000","result":"success","zulip_feature_level":1}
+const TIME_OF_MESSAGES_TOLD: &str =
+    r##"finished 8 {"last_event_id":-1,"msg":"","queue_id":"00000001-0000-0000-0000-000000000000","result":"success","zulip_feature_level":1}
 ticked 0
 ticked 0
 committed 9 3

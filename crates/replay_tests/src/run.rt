@@ -256,7 +256,12 @@ fn shards_are_numbered_first_and_then_there(rt: HostRuntime) -> Result<(), Fail>
     for line in &MISPLACED_LINES {
         let script = joined(rt.alloc(), ADD_ANN, line)?;
         let replayed = replay(rt.alloc(), &script)?;
-        check(&rt, replayed, Status::BadLine { line: 2 }, "committed 1 1\n");
+        check(
+            &rt,
+            replayed,
+            Status::BadLine { line: 2 },
+            "committed 1 1\n",
+        );
     }
     Ok(())
 }
