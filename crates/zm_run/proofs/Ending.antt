@@ -9,12 +9,12 @@ use Rattle.zm_run.specs.declared.runner.Runner.{Runner}
 use Rattle.zm_run.specs.declared.runner.Stop.{Stop}
 use Rattle.zm_run.specs.declared.runner.Stop.TheVariants.{BadLine, NoMemory}
 use Rattle.zm_run.specs.declared.status.Status.TheVariants as status
-use Rattle.zm_run.specs.Inputs.{AreLines, HasNoFeed, SplitsWhole, bytes_of, max_input_bytes, shards}
+use Rattle.zm_run.specs.Inputs.{AreLines, HasNoFeed, SplitsWhole, bytes_of, max_input_bytes}
 use Rattle.zm_run.specs.RunEnds.{ReadSome, Replays, WroteSome}
-use Rattle.zm_run.specs.Running.{Grows, PlayedOn, PlayedToEnd, Running, Represents, StaysAsItWas, StoppedIn, pending_of}
+use Rattle.zm_run.specs.Running.{Grows, PlayedOn, PlayedToEnd, Running, Represents, StaysAsItWas, StoppedIn, pending_of, setting_in}
 use Rattle.zm_run.specs.Stops.{status_of}
 use Rattle.zm_run.proofs.Feeds.{lines_within}
-use Rattle.zm_run.proofs.Told.{told_nothing}
+use Rattle.zm_run.proofs.Told.{still_represents, told_nothing}
 
 -- a runner that played no more lines than bytes were read
 pub lines_counted : (left left' held held' : Option (List ℕ)) (runner : Runner) (input : Input) → Running left left' held held' runner input → runner.lines ≤ input.read
@@ -66,13 +66,14 @@ running_unread left before after held held' runner old new stays running = recor
 pub running_after_piece : (left left' held before after : Option (List ℕ)) (old mid new : Runner) (input input' : Input) (used : ℕ)
     → (running : Running left left' held before old input)
     → PlayedOn mid running.lines running.written (take used (pending_of input))
-    → Gains before mid.output.items after → new.output.items ≡ [] → new.player ≡ mid.player → new.lines ≡ mid.lines
+    → Gains before mid.output.items after → new.output.items ≡ [] → new.player ≡ mid.player → new.is_first ≡ mid.is_first → new.lines ≡ mid.lines
     → pending_of input' ≡ drop used (pending_of input) → input'.read ≡ input.read
     → Running left left' held after new input'
-running_after_piece left left' held before after old mid new input input' used running on puts emptied player counts pending read =
+running_after_piece left left' held before after old mid new input input' used running on puts emptied player first counts pending read =
     let text = running.written ++ mid.output.items in
     let same : text ≡ text ++ new.output.items = sym (append-nil text) ∙ ap (λ t. text ++ t) (sym emptied) in
-    let represents : Represents mid.player on.after (text ++ new.output.items) = subst (λ t. Represents mid.player on.after t) same on.played.represents in
+    let represents : Represents mid.player (setting_in mid) on.after (text ++ new.output.items) =
+    subst (λ t. Represents mid.player (setting_in mid) on.after t) same on.played.represents in
     record {
       read = running.read;
       written = text;
@@ -80,7 +81,7 @@ running_after_piece left left' held before after old mid new input input' used r
       took = running.took;
       gave = Gains-chain held before after running.written mid.output.items running.gave puts;
       played = record {
-        represents = subst (λ p. Represents p on.after (text ++ new.output.items)) (sym player) represents;
+        represents = still_represents mid new on.after (text ++ new.output.items) player first represents;
         counted = counts ∙ on.played.counted;
         good = on.played.good;
       };
@@ -96,7 +97,7 @@ running_after_piece left left' held before after old mid new input input' used r
 -- a part of the text is written
 wrote_some : (read written output : List ℕ) (lines : List (List ℕ)) (rest : List ℕ) (left : Option (List ℕ)) (n : ℕ)
     → (read ≡ bytes_of lines ++ rest) ⊎ (SplitsWhole read lines × IsSpent left) → AreLines lines
-    → HasText shards lines (written ++ output) → WroteSome read (written ++ take n output) left
+    → HasText lines (written ++ output) → WroteSome read (written ++ take n output) left
 wrote_some read written output lines rest left n begins good text = record {
   lines = lines;
   rest = rest;
@@ -187,8 +188,8 @@ ends_at_stop left left' held before after BadLine old mid input running stopped 
   ends = record {
     lines = stopped.after;
     numbered = ap (λ n. n + 1) stopped.counted;
-    breaks = record { rest = stopped.rest; whole = running.whole ∙ stopped.spelled; good = stopped.good; bad = stopped.why };
     text = stopped.text;
+    breaks = record { rest = stopped.rest; whole = running.whole ∙ stopped.spelled; good = stopped.good; bad = stopped.why };
   };
 }
 ends_at_stop left left' held before after NoMemory old mid input running stopped puts = record {
@@ -228,11 +229,11 @@ ends_done left left' held before after old mid input running spent goes puts = r
 
 -- the text of what was played is what was written
 written_text : (left left' held held' : Option (List ℕ)) (runner : Runner) (input : Input)
-    → (running : Running left left' held held' runner input) → HasText shards running.lines running.written
+    → (running : Running left left' held held' runner input) → HasText running.lines running.written
 written_text left left' held held' runner input running =
     let none : running.written ++ runner.output.items ≡ running.written =
     ap (λ t. running.written ++ t) running.handed ∙ append-nil running.written in
-    subst (λ t. HasText shards running.lines t) none running.played.represents.told
+    subst (λ t. HasText running.lines t) none running.played.represents.told
 
 read_some : (left left' held held' : Option (List ℕ)) (runner : Runner) (input : Input)
     → (running : Running left left' held held' runner input) → HasNoFeed (pending_of input) → ReadSome running.read running.written

@@ -1,5 +1,5 @@
 -- What a run owes a good script.
-use Rattle.std.specs.Prelude.{◌≡◌, ℕ, ◌<◌, ◌⊎◌, Option, Some, List, [], ◌∷◌, length}
+use Rattle.std.specs.Prelude.{◌≡◌, ℕ, ◌<◌, ◌⊎◌, Option, Some, List, length}
 use Rattle.zs_script.specs.declared.step.Step.{Step}
 use Rattle.zs_script.specs.Scripts.{AreSpelled}
 use Rattle.zm_run.specs.declared.status.Status.{Status}

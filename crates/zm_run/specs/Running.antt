@@ -1,31 +1,33 @@
 -- A run on its way: what was read and played so far, and what is yet to be played and written.
-use Rattle.std.specs.Prelude.{◌≡◌, ℕ, ◌+◌, ◌<◌, ◌≤◌, ◌⊎◌, Option, List, [], ◌++◌, length, take}
+use Rattle.std.specs.Prelude.{◌≡◌, ℕ, ◌+◌, ◌<◌, ◌≤◌, ◌⊎◌, false, Option, List, [], ◌++◌, length, take}
 use Rattle.ev_ports.specs.Ports.{Loses, Gains, IsSpent}
 use Rattle.ev_ports.specs.declared.reading.Took.{Took}
 use Rattle.ev_ports.specs.declared.reading.Took.TheVariants.{Bytes, End, Failed}
 use Rattle.zw_traces.specs.Histories.{History, IsLegalHistory, IsFedHistory}
-use Rattle.zw_world.specs.Worlds.{WorldState, WorldRepresents}
+use Rattle.zw_world.specs.Worlds.{WorldRepresents}
+use Rattle.zs_script.specs.declared.step.Setting.{Setting}
 use Rattle.zs_script.specs.declared.step.Step.{Step}
 use Rattle.zs_script.specs.Grammar.{IsNoStep}
+use Rattle.zs_script.specs.Scripts.{moment_after, moment_of, setting_of, shards_after}
 use Rattle.zm_text.specs.declared.outcome.Outcome.{Outcome}
 use Rattle.zm_text.specs.Outcomes.{text_of_outcome}
-use Rattle.zm_text.specs.Playing.{Turn, IsPlayed}
+use Rattle.zm_text.specs.Playing.{Turn, IsPlayed, steps_in}
 use Rattle.zm_text.specs.Promises.{Promises}
 use Rattle.zm_text.specs.Texts.{HasText}
-use Rattle.zm_play.specs.Played.{Played}
+use Rattle.zm_play.specs.Played.{PlayerState, Played}
 use Rattle.zm_run.specs.declared.input.Input.{Input}
 use Rattle.zm_run.specs.declared.runner.Runner.{Runner}
 use Rattle.zm_run.specs.declared.runner.Stop.{Stop}
 use Rattle.zm_run.specs.declared.runner.Stop.TheVariants.{BadLine, NoMemory}
 use Rattle.zm_run.specs.declared.status.Status.{Status}
 use Rattle.zm_run.specs.declared.status.Status.TheVariants as status
-use Rattle.zm_run.specs.Inputs.{AreLines, BeginsNoStep, BeginsTooLong, bytes_of, max_line_bytes, shards, SplitsWhole}
+use Rattle.zm_run.specs.Inputs.{AreLines, BeginsNoStep, BeginsTooLong, bytes_of, max_line_bytes, SplitsWhole}
 
 -- the promises hold of whatever is played in a history that is legal by each core's own steps, and the history is legal
 abbrev pub ScriptsAreSound : Type 0
 ScriptsAreSound =
     (lines : List (List ℕ)) (turns : List Turn) (history : History) →
-    IsPlayed shards lines turns history → IsFedHistory history → IsLegalHistory history × Promises turns
+    IsPlayed lines turns history → IsFedHistory history → IsLegalHistory history × Promises turns
 
 -- the bytes that were read and not yet played
 abbrev pub pending_of : Input → List ℕ
@@ -51,21 +53,30 @@ Fills (Bytes n) left left' old new = Grows left left' old new
 Fills End left left' old new = StaysAsItWas left left' old new × IsSpent left
 Fills Failed left left' old new = StaysAsItWas left left' old new
 
+-- what a runner leaves to the next line
+abbrev pub setting_in : Runner → Setting
+setting_in runner = record { shards = length runner.player.world.shards; is_first = runner.is_first }
+
 -- a step was played, and its line of output appended
 pub record PlaysStep (step : Step) (old new : Runner) : Type 0 where
   pub outcome : Outcome
   pub played : Played old.player new.player step outcome
+  pub moment : new.player.moment ≡ moment_after step old.player.moment
+  pub shards : length new.player.world.shards ≡ shards_after step (length old.player.world.shards)
+  pub is_first : new.is_first ≡ false
   pub output : new.output.items ≡ old.output.items ++ text_of_outcome outcome
 
--- a player represents lines, the latest first, and their text
-pub record Represents (player : WorldState) (lines : List (List ℕ)) (text : List ℕ) : Type 0 where
-  pub told : HasText shards lines text
+-- a player represents lines, the latest first, and their text, and this is left to the next line
+pub record Represents (player : PlayerState) (setting : Setting) (lines : List (List ℕ)) (text : List ℕ) : Type 0 where
+  pub told : HasText lines text
   pub fed : IsFedHistory told.history
-  pub world : WorldRepresents player told.history
+  pub world : WorldRepresents player.world told.history
+  pub moment : player.moment ≡ moment_of (steps_in told.turns)
+  pub left : setting ≡ setting_of (steps_in told.turns)
 
 -- a runner played these lines, the latest first, and this is written of their text: its output is the rest
 pub record HasPlayed (runner : Runner) (lines : List (List ℕ)) (written : List ℕ) : Type 0 where
-  pub represents : Represents runner.player lines (written ++ runner.output.items)
+  pub represents : Represents runner.player (setting_in runner) lines (written ++ runner.output.items)
   pub counted : runner.lines ≡ length lines
   pub good : AreLines lines
 
@@ -81,24 +92,24 @@ pub record PlayedToEnd (runner : Runner) (lines : List (List ℕ)) (written rest
   pub played : HasPlayed runner after written
   pub split : SplitsWhole (bytes_of lines ++ rest) after
 
--- why the line here isn't played: it is bad, with this left of the input, or memory is wanted
-abbrev pub IsWhy : Stop → List ℕ → Option (List ℕ) → Type 0
-IsWhy BadLine rest left = BeginsTooLong rest ⊎ BeginsNoStep rest left
-IsWhy NoMemory rest left = Unit {0}
+-- why the line here isn't played: it is bad after the steps before it, with this left of the input, or memory is wanted
+abbrev pub IsWhy : Stop → Setting → List ℕ → Option (List ℕ) → Type 0
+IsWhy BadLine setting rest left = BeginsTooLong rest ⊎ BeginsNoStep setting rest left
+IsWhy NoMemory setting rest left = Unit {0}
 
 -- after these lines a runner played those of the bytes, up to one that it didn't play
 pub record StoppedIn (stop : Stop) (runner : Runner) (lines : List (List ℕ)) (written bytes : List ℕ) (left : Option (List ℕ)) : Type 0 where
   pub after : List (List ℕ)
   pub rest : List ℕ
-  pub text : HasText shards after (written ++ runner.output.items)
+  pub text : HasText after (written ++ runner.output.items)
   pub counted : runner.lines ≡ length after
   pub good : AreLines after
   pub spelled : bytes_of lines ++ bytes ≡ bytes_of after ++ rest
-  pub why : IsWhy stop rest left
+  pub why : IsWhy stop (setting_of (steps_in text.turns)) rest left
 
--- a line isn't played since it is too long or no step
-abbrev pub IsBad : List ℕ → Type 0
-IsBad line = (max_line_bytes < length line) ⊎ ((length line ≤ max_line_bytes) × IsNoStep shards line)
+-- a line isn't played since it is too long, or no step after those before it
+abbrev pub IsBad : Setting → List ℕ → Type 0
+IsBad setting line = (max_line_bytes < length line) ⊎ ((length line ≤ max_line_bytes) × IsNoStep setting line)
 
 -- a run on its way: all that was played is written
 pub record Running (left left' held held' : Option (List ℕ)) (runner : Runner) (input : Input) : Type 0 where

@@ -8,10 +8,7 @@ use ev_base::NoMemory;
 use ev_ports::{Sink, Written, write_all};
 use std::alloc::Global;
 use zm_play::Player;
-use zs_script::{LineFault, Step, read_line};
-
-/// A script is run over one shard.
-const SHARDS: u32 = 1;
+use zs_script::{LineFault, Setting, Step, read_line};
 
 /// Why a line isn't played.
 #[derive(Clone, Copy, Debug, PartialEq, Eq)]
@@ -48,9 +45,10 @@ impl From<NoMemory> for Stop {
 #[derive(Drop)]
 pub struct Runner {
     pub player: Player,
+    /// Whether no step was played.
+    pub is_first: bool,
     pub lines: u64,
     pub output: Vec<u8>,
-    ghost one_shard: { length player.shards ≡ 1 },
 }
 
 impl Runner {
@@ -58,9 +56,9 @@ impl Runner {
     ghost use Rattle.ev_ports.specs.Ports.{IsSpent, PutsAll, Rose};
     ghost use Rattle.zm_run.specs.Inputs.{HasNoFeed, max_line_bytes};
     ghost use Rattle.zm_run.specs.RunEnds.{Replays};
-    ghost use Rattle.zm_run.specs.Running.{HasPlayed, IsBad, IsCaused, PlayedOn, PlayedToEnd, PlaysStep, Running, StoppedIn, pending_of};
+    ghost use Rattle.zm_run.specs.Running.{HasPlayed, IsBad, IsCaused, PlayedOn, PlayedToEnd, PlaysStep, Running, StoppedIn, pending_of, setting_in};
     ghost use Rattle.zm_run.specs.Stops.{status_of};
-    ghost use Rattle.zm_play.specs.Played.{NamesAShard};
+    ghost use Rattle.zs_script.specs.Scripts.{MayPlay};
 
     /// No line was played.
     pub fn new(alloc: Global) -> Result<Runner, NoMemory>
@@ -68,6 +66,7 @@ impl Runner {
     {
         Ok(Runner {
             player: Player::new(alloc)?,
+            is_first: true,
             lines: 0,
             output: Vec::new(alloc),
         })
@@ -169,7 +168,7 @@ impl Runner {
         requires few { self.old.lines < 2 ^ 63 }
         ensures played { OnOk result ((lines : List (List ℕ)) (written : List ℕ) → HasNoFeed line.now
             → HasPlayed self.old lines written → HasPlayed self.new (line.now ∷ lines) written) }
-        ensures bad { result ≡ Err Stop.BadLine → IsBad line.now }
+        ensures bad { result ≡ Err Stop.BadLine → IsBad (setting_in self.old) line.now }
         ensures lines { OnOk result (self.new.lines ≡ self.old.lines + 1) }
         ensures stopped { OnErr result (self.new.lines ≡ self.old.lines) }
         ensures output { OnErr result (self.new.output.items ≡ self.old.output.items) }
@@ -177,7 +176,7 @@ impl Runner {
         if line.len() > MAX_LINE_BYTES {
             return Err(Stop::BadLine);
         }
-        if let Some(step) = read_line(alloc, SHARDS, line)? {
+        if let Some(step) = read_line(alloc, self.setting(), line)? {
             self.play_step(alloc, step)?;
         }
         self.lines += 1;
@@ -186,13 +185,24 @@ impl Runner {
 
     /// Plays a step, and appends its line of output.
     fn play_step(&mut self, alloc: Global, step: Step) -> Result<(), NoMemory>
-        requires { NamesAShard 1 step }
+        requires { MayPlay (length self.old.player.world.shards) step }
         ensures played { OnOk result (PlaysStep step self.old self.new) }
         ensures lines { self.new.lines ≡ self.old.lines }
         ensures output { OnErr result (self.new.output.items ≡ self.old.output.items) }
     {
         let outcome = self.player.play(alloc, step)?;
+        self.is_first = false;
         outcome.write(alloc, &mut self.output)
+    }
+
+    /// What the steps so far leave to the next line.
+    fn setting(&self) -> Setting
+        ensures { result ≡ setting_in self.now }
+    {
+        Setting {
+            shards: self.player.shards(),
+            is_first: self.is_first,
+        }
     }
 
     /// Writes the output, and begins a new one.
@@ -200,6 +210,7 @@ impl Runner {
         ensures put { PutsAll result (K.held sink.old) self.old.output.items (K.held sink.new) }
         ensures emptied { self.new.output.items ≡ [] }
         ensures player { self.new.player ≡ self.old.player }
+        ensures is_first { self.new.is_first ≡ self.old.is_first }
         ensures lines { self.new.lines ≡ self.old.lines }
         ensures count { K.faults sink.old ≤ K.faults sink.new }
         ensures cause { result ≡ Written.Failed → Rose (K.faults sink.old) (K.faults sink.new) }

@@ -3,7 +3,7 @@ use Rattle.std.proofs.lemmas.Result.{err_from_is_err_and}
 use Rattle.zm_run.specs.declared.runner.Stop.{Stop}
 use Rattle.zm_run.specs.declared.runner.Stop.TheVariants.{BadLine}
 use Rattle.zm_run.specs.Inputs.{HasNoFeed, max_line_bytes}
-use Rattle.zm_run.specs.Running.{HasPlayed, IsBad}
+use Rattle.zm_run.specs.Running.{HasPlayed, IsBad, setting_in}
 use Rattle.zm_run.proofs.Feeds.{feed_behind, no_feed_behind}
 use Rattle.zm_run.proofs.Playing.{played_more, played_none, stopped_in, why_in, why_too_long}
 use Rattle.zm_run.proofs.runner.Runner.play_lines.Goals as goal
@@ -36,7 +36,7 @@ returns-then-bytes-used-gt-MAX_LINE_BYTES-clause-played c = λ left lines writte
     let size = length-drop used bytes in
     let long : max_line_bytes < length (drop used bytes) = omega (arith, c.if-bytes-used-gt-MAX_LINE_BYTES.true) in
     stopped_in BadLine c.loop-length.self c.loop-length.self lines written bytes used left (c.loop-length.invariant.played lines written played)
-    refl refl (why_too_long (drop used bytes) left (no_feed_behind bytes used c.in_default.ensures) long)
+    refl refl (why_too_long (setting_in c.loop-length.self) (drop used bytes) left (no_feed_behind bytes used c.in_default.ensures) long)
 
 pub returns-clause-rest : goal.returns-clause-rest
 returns-clause-rest c = no_feed_behind c.args.bytes.now c.loop-length.used c.in_default.ensures
@@ -50,10 +50,10 @@ returns-in_err-play_line-clause-played c = λ left lines written played.
     let size : used + n - used ≡ n = omega arith in
     let stop = c.in_err-play_line.field-0.0 in
     let says = c.in_err-play_line.ensures in
-    let bad : stop ≡ BadLine → IsBad (take n (drop used bytes)) =
-    λ is. subst (λ k. IsBad (take k (drop used bytes))) size (says.bad (ap (λ (s : Stop). Err s) is)) in
+    let bad : stop ≡ BadLine → IsBad (setting_in c.loop-length.self) (take n (drop used bytes)) =
+    λ is. subst (λ k. IsBad (setting_in c.loop-length.self) (take k (drop used bytes))) size (says.bad (ap (λ (s : Stop). Err s) is)) in
     let stopped = stopped_in stop c.loop-length.self c.play_line.new.self lines written bytes used left
     (c.loop-length.invariant.played lines written played) says.output says.stopped
-    (why_in stop (drop used bytes) n left at.below at.feed at.no_feed bad) in
+    (why_in stop (setting_in c.loop-length.self) (drop used bytes) n left at.below at.feed at.no_feed bad) in
     let p = err_from_is_err_and c.from_residual.result c.from_residual.ensures.1 in
     rw (p.1, p.2) stopped

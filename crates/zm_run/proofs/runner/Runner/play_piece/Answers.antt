@@ -12,7 +12,7 @@ returns-in-Ok-clause-goes g c = λ left left' held running.
     let goes = rw c.pending.ensures at c.in-Ok.ensures.played in
     let handed = c.in-All.ensures in
     running_after_piece left left' held _ _ c.args.self.now c.play_lines-played.new.self c.hand_over.new.self c.args.input.now c.consume.new.self c.in-Ok.used running
-    (goes left' running.lines running.written running.played) handed.put handed.emptied handed.player handed.lines c.consume.ensures.pending c.consume.ensures.read
+    (goes left' running.lines running.written running.played) handed.put handed.emptied handed.player handed.is_first handed.lines c.consume.ensures.pending c.consume.ensures.read
 
 pub returns-in-Err-clause-goes : goal.returns-in-Err-clause-goes
 returns-in-Err-clause-goes g c = λ left left' held running.
