@@ -1,23 +1,15 @@
 -- What loops over a shard's queues, over notices and over their parts make.
-use Rattle.std.proofs.Common.{◌≡◌, ℕ, zero, suc, ◌+◌, ◌<◌, Bool, true, false, cond, not, ◌&&◌, ◌||◌, List, [], ◌∷◌, ◌++◌, length, map, filter, flat_map, slice_get, get_or, drop, drop-cons, add-one, Option, Some, None, refl, ap, sym, subst, ◌∙◌, arith}
-use Rattle.std.proofs.lemmas.Bool.{false≢true}
-use Rattle.std.proofs.lemmas.List.Elements.{filter-append}
+use Rattle.std.proofs.Common.{◌≡◌, ℕ, zero, suc, ◌+◌, ◌<◌, Bool, true, false, cond, not, ◌&&◌, ◌||◌, List, [], ◌∷◌, length, map, filter, slice_get, get_or, drop, drop-cons, add-one, Option, Some, None, refl, ap, sym, subst, ◌∙◌, arith}
 use Rattle.std.specs.List.{cons_option, filter_map, list_any}
 use Rattle.std.specs.Option.{option_map_or, unwrap_or}
-use Rattle.std.proofs.lemmas.List.Concat.{flat_map-cons}
 use Rattle.std.specs.Map.{keys_of}
 use Rattle.std.specs.Map.Calls.{RetainsPairs}
 use Rattle.indexmap.specs.IndexMap.{set_value_at}
 use Rattle.ev_rows.specs.Rows.{only_if}
 use Rattle.ev_base.specs.declared.ids.UserId.{UserId}
 use Rattle.ev_base.specs.declared.ids.QueueId.{QueueId}
-use Rattle.ev_types.specs.declared.kind.Types.{Types}
 use Rattle.ev_types.specs.declared.notice.Notice.{Notice}
-use Rattle.ev_types.specs.declared.notice.Part.{Part}
-use Rattle.ev_types.specs.Audiences.{events_for, has_user}
-use Rattle.ev_types.specs.Feeders.{kind_of, receives}
-use Rattle.ev_types.specs.OneSection.{received}
-use Rattle.zw_traces.specs.Account.{Account, end_user, is_due, is_over, same_user, with_events}
+use Rattle.zw_traces.specs.Account.{Account, end_user, is_due, is_over, same_user}
 use Rattle.q_shard.proofs.EntryLemmas.{among_more}
 use Rattle.q_shard.specs.ShardInputs.{AreNumbered}
 use Rattle.q_shard.specs.HeldQueues.{AreEnded, HeldQueue, accounts_of, expiries_in, expiry_in, settled_entry, stays_of}

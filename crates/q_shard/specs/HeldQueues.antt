@@ -1,7 +1,7 @@
 -- The queues that a shard holds, in the order of their opening, with their accounts.
 use Rattle.std.specs.Prelude.{◌≡◌, ℕ, ◌<◌, true, false, Bool, Option, Some, ◌||◌, flat_map, List, [], ◌∷◌, filter, map, reverse, not, MatchOption, ◌&&◌}
 use Rattle.std.specs.Option.{unwrap_or}
-use Rattle.std.specs.List.{filter_map, list_any}
+use Rattle.std.specs.List.{list_any}
 use Rattle.ev_rows.specs.Rows.{only_if}
 use Rattle.std.specs.Map.{keys_of, lookup, remove_entry, set_value}
 use Rattle.ev_base.specs.declared.expired.Expired.{Expired}

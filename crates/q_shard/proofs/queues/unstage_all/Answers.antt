@@ -1,6 +1,5 @@
-use Rattle.std.proofs.Common.{ap, ◌∙◌}
+use Rattle.std.proofs.Common.{◌∙◌}
 use Rattle.indexmap.specs.Layout.{length-set_value_at}
-use Rattle.q_shard.specs.HeldQueues.{HeldQueue}
 use Rattle.q_shard.proofs.LoopLemmas.{set_account}
 use Rattle.q_shard.proofs.queues.unstage_all.Goals as goal
 

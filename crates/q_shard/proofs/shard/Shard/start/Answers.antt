@@ -2,9 +2,9 @@ use Rattle.std.proofs.Common.{◌≡◌, ℕ, ◌+◌, refl, ap, sym, ◌∙◌,
 use Rattle.std.specs.Map.{keys_of, lookup}
 use Rattle.ev_base.specs.declared.ids.UserId.{UserId}
 use Rattle.ev_base.specs.declared.ids.QueueId.{QueueId}
-use Rattle.zw_traces.specs.Account.{opened_account, same_queue, same_user}
+use Rattle.zw_traces.specs.Account.{Account, opened_account, same_queue, same_user}
 use Rattle.zw_traces.specs.declared.shard.ShardReply.TheVariants.{NoMemory, Opened}
-use Rattle.q_shard.specs.HeldQueues.{HeldQueue, ShardState, accounts_of, opens_in, seen}
+use Rattle.q_shard.specs.HeldQueues.{ShardState, accounts_of, opens_in, seen}
 use Rattle.q_shard.proofs.EntryLemmas.{none_back}
 use Rattle.q_shard.proofs.ReplyLemmas.{few_held, held_count, many_held, opens_left, starts_full, starts_open}
 use Rattle.q_shard.proofs.StepLemmas.{next_absent, start_any, unchanged}
