@@ -11,8 +11,8 @@ push and a poll at the end of each hundred lines:
             deletions and changes of people and streams (2,000 and 4,000)
   kept      one queue that nobody polls: a rename of the realm, an announcement and a push for each item (5,000 and 10,000 items)
   passed    one queue whose client polls each item at once (10,000 and 20,000 items)
-  spread    a hundred pushes, each of one event to every queue (2,000 and 4,000 queues); the time of the same lines without the
-            pushes is taken off
+  spread    a hundred pushes, each of one event to every queue (1,000 and 2,000 queues); the time of the same lines without the
+            pushes is taken off, each as the least of five
 All are timed where none is named. Prints for each count the time, the ratio to the one before, and the greatest memory of the
 program so far.
 """
@@ -132,7 +132,7 @@ SCRIPTS = {
     "messages": (messages, [2_000, 4_000]),
     "kept": (kept, [5_000, 10_000]),
     "passed": (passed, [10_000, 20_000]),
-    "spread": (spread, [2_000, 4_000]),
+    "spread": (spread, [1_000, 2_000]),
 }
 
 
@@ -153,6 +153,10 @@ def replay(program, lines):
     return seconds, resource.getrusage(resource.RUSAGE_CHILDREN).ru_maxrss
 
 
+def least(program, lines):
+    return min(replay(program, lines)[0] for _ in range(5))
+
+
 def main():
     words = sys.argv[1:]
     if not words or len(words) > 1 and words[1] not in SCRIPTS:
@@ -164,7 +168,7 @@ def main():
         for count in [int(word) for word in words[2:]] or counts:
             seconds, memory = replay(program, script(count))
             if script is spread:
-                seconds -= replay(program, spread(count, ()))[0]
+                seconds = least(program, spread(count)) - least(program, spread(count, ()))
             ratio = f", {seconds / before:.2f} times the one before" if before else ""
             print(f"{name}, {count}: {seconds:.3f} s{ratio}, at most {memory / 1024:.1f} MiB")
             before = seconds
