@@ -12,18 +12,20 @@ use Rattle.ev_types.specs.Sections.{sections_of}
 use Rattle.zw_traces.specs.Account.{same_queue, count_of}
 use Rattle.zw_traces.specs.Clients.{Client, may_take}
 use Rattle.zs_script.specs.declared.step.Step.{Step}
-use Rattle.zs_script.specs.declared.step.Step.TheVariants.{Register, Poll}
+use Rattle.zs_script.specs.declared.step.Step.TheVariants.{OpenQueue, Register, Poll}
 use Rattle.zm_text.specs.declared.outcome.Outcome.{Outcome}
-use Rattle.zm_text.specs.declared.outcome.Outcome.TheVariants.{Finished, Answered, Empty}
+use Rattle.zm_text.specs.declared.outcome.Outcome.TheVariants.{Opened, Finished, Answered, Empty}
 use Rattle.zm_text.specs.Playing.{Turn}
 
--- the types and the sections for which a queue was registered
+-- the types and the sections for which a queue was opened
 pub record Registration : Type 0 where
   pub types : Types
   pub asked : List Section
 
--- as the line tells that registered it
+-- as the line tells that opened it
 abbrev pub registration_after : QueueId → Step → Outcome → Option Registration → Option Registration
+registration_after queue (OpenQueue user types asked) (Opened other at) before =
+    if same_queue queue other then Some (record { types = types; asked = asked }) else before
 registration_after queue (Register user types asked) (Finished reached other last state) before =
     if same_queue queue other then Some (record { types = types; asked = asked }) else before
 registration_after queue step outcome before = before
@@ -43,9 +45,10 @@ is_told which registration = is_among registration.asked which && covers registr
 abbrev pub is_followed : QueueId → Section → List Turn → Bool
 is_followed queue which turns = option_map_or (is_told which) (registration_of queue turns) false
 
--- the commit that a line reached for a queue: that of its register reply, or of an answer, which may be empty
+-- the commit that a line reached for a queue: that of its register reply, which a line that registers or finishes prints, or of an
+-- answer, which may be empty
 abbrev pub reached_by : QueueId → Step → Outcome → Option ℕ
-reached_by queue (Register user types asked) (Finished reached other last state) = if same_queue queue other then Some reached else None
+reached_by queue step (Finished reached other last state) = if same_queue queue other then Some reached else None
 reached_by queue (Poll user other after beat) (Answered reached answered items) = if same_queue queue answered then Some reached else None
 reached_by queue (Poll user other after beat) (Empty reached) = if same_queue queue other then Some reached else None
 reached_by queue step outcome = None
@@ -64,7 +67,7 @@ items_told queue (turn ∷ before) = items_by queue turn.step turn.outcome ++ it
 -- with an id that it hasn't reached
 module _ (queue : QueueId) (which : Section) where
   abbrev pub client_after : Bool → Step → Outcome → Option Client → Option Client
-  client_after arrives (Register user types asked) (Finished reached other last state) before =
+  client_after arrives step (Finished reached other last state) before =
       if same_queue queue other then option_map (λ rows. record { rows = rows; count = count_of last }) (rows_of which (sections_of state)) else before
   client_after arrives (Poll user other after beat) (Answered reached answered items) before =
       if same_queue queue answered then option_map (may_take arrives (count_of after) items) before else before

@@ -6,8 +6,9 @@ use Rattle.ev_types.specs.Sections.{sections_of}
 use Rattle.ev_wire.specs.Bodies.{register_text, events_text, state_text}
 use Rattle.zr_types.specs.declared.command.Refusal.{Refusal}
 use Rattle.zr_types.specs.declared.command.Refusal.TheVariants as refusal
+use Rattle.zs_words.specs.Names.{section_name}
 use Rattle.zm_text.specs.declared.outcome.Outcome.{Outcome}
-use Rattle.zm_text.specs.declared.outcome.Outcome.TheVariants.{Committed, Refused, Sharded, Noticed, Pushed, Gap, Finished, OpensSpent, TooManyQueues, FetchRefused, Answered, Empty, BadQueue, NotSent, Pruned, Deleted, Ticked, At, Viewed}
+use Rattle.zm_text.specs.declared.outcome.Outcome.TheVariants.{Committed, Refused, Sharded, Noticed, Pushed, Gap, Opened, Fetched, Finished, MissingSection, NotPushed, OpensSpent, TooManyQueues, FetchRefused, Answered, Empty, BadQueue, NotSent, Pruned, Deleted, Ticked, At, Viewed}
 
 -- a word and the next, with a space between
 abbrev pub and_then : List ℕ → List ℕ → List ℕ
@@ -52,6 +53,10 @@ line_of (Sharded count) = and_then (codes "shards") (decimal count)
 line_of (Noticed count) = and_then (codes "noticed") (decimal count)
 line_of (Pushed position) = and_then (codes "pushed") (decimal position)
 line_of (Gap have first) = and_then (codes "gap") (and_then (decimal have) (decimal first))
+line_of (Opened queue position) = and_then (codes "opened") (and_then (queue_word queue) (decimal position))
+line_of (Fetched section at) = and_then (codes "fetched") (and_then (section_name section) (decimal at))
+line_of (MissingSection section) = and_then (codes "missing_section") (section_name section)
+line_of (NotPushed have need) = and_then (codes "not_pushed") (and_then (decimal have) (decimal need))
 line_of (Finished reached queue last_event_id state) =
     with_body (codes "finished") reached (register_text queue last_event_id (sections_of state))
 line_of OpensSpent = codes "opens_spent"

@@ -1,5 +1,5 @@
 -- What the lines of a script ask of a realm and its shards, and what is printed for them.
-use Rattle.std.specs.Prelude.{◌≡◌, ℕ, ℤ, Bool, ◌+◌, ◌≤◌, ◌<◌, max, Some, List, [], ◌∷◌, ◌++◌, flat_map, length, map, fold, ◌⊎◌}
+use Rattle.std.specs.Prelude.{◌≡◌, ℕ, ℤ, Bool, ◌+◌, ◌≤◌, ◌<◌, max, Some, List, [], ◌∷◌, ◌++◌, flat_map, length, map, fold, ◌⊎◌, false, true, if◌then◌else◌}
 use Rattle.ev_base.specs.declared.ids.UserId.{UserId}
 use Rattle.ev_base.specs.declared.ids.QueueId.{QueueId}
 use Rattle.ev_base.specs.declared.expired.Expired.{Expired}
@@ -7,7 +7,8 @@ use Rattle.ev_types.specs.declared.notice.Notice.{Notice}
 use Rattle.ev_types.specs.declared.kind.Types.{Types}
 use Rattle.ev_types.specs.declared.section.Section.{Section}
 use Rattle.ev_types.specs.Sections.{SomeSections, sections_of}
-use Rattle.ev_types.specs.OneSection.{rows_of}
+use Rattle.ev_types.specs.declared.state.Rows.{Rows}
+use Rattle.ev_types.specs.OneSection.{rows_of, same_section}
 use Rattle.zr_types.specs.declared.command.Committed.{Committed as CommitReply}
 use Rattle.zw_traces.specs.declared.realm.RealmInput.TheVariants as realm
 use Rattle.zw_traces.specs.declared.realm.RealmReply.TheVariants as realm_reply
@@ -18,13 +19,15 @@ use Rattle.zw_traces.specs.declared.shard.ShardReply.{ShardReply}
 use Rattle.zw_traces.specs.declared.shard.ShardReply.TheVariants as shard_reply
 use Rattle.zw_traces.specs.FetchedSections.{all_sections, needed}
 use Rattle.zw_traces.specs.RealmTrace.{announced_count, commits}
-use Rattle.zw_traces.specs.Histories.{History, opening_history, shard_of, with_realm_step, with_shard_step}
+use Rattle.zw_traces.specs.Account.{is_opening_phase, same_queue}
+use Rattle.zw_traces.specs.ShardTrace.{account_of, pushed_events}
+use Rattle.zw_traces.specs.Histories.{History, opening_history, shard_of, trace_at, with_realm_step, with_shard_step}
 use Rattle.zs_script.specs.declared.step.Step.{Step}
-use Rattle.zs_script.specs.declared.step.Step.TheVariants.{Command, Shards, NoticeAll, Push, PushFrom, Register, Poll, DeleteQueue, Tick, Locate, View}
+use Rattle.zs_script.specs.declared.step.Step.TheVariants.{Command, Shards, NoticeAll, Push, PushFrom, OpenQueue, Fetch, Finish, Register, Poll, DeleteQueue, Tick, Locate, View}
 use Rattle.zs_script.specs.Grammar.{IsPassedOver, Spells}
 use Rattle.zs_script.specs.Scripts.{moment_of, setting_of}
 use Rattle.zm_text.specs.declared.outcome.Outcome.{Outcome}
-use Rattle.zm_text.specs.declared.outcome.Outcome.TheVariants.{Committed, Refused, Sharded, Noticed, Pushed, Gap, Finished, OpensSpent, TooManyQueues, FetchRefused, Answered, Empty, BadQueue, NotSent, Pruned, Deleted, Ticked, At, Viewed}
+use Rattle.zm_text.specs.declared.outcome.Outcome.TheVariants.{Committed, Refused, Sharded, Noticed, Pushed, Gap, Opened, Fetched, Finished, MissingSection, NotPushed, OpensSpent, TooManyQueues, FetchRefused, Answered, Empty, BadQueue, NotSent, Pruned, Deleted, Ticked, At, Viewed}
 
 -- the salt of the queues of a script
 abbrev pub salt : ℕ
@@ -134,6 +137,40 @@ abbrev pub AreShown : ℕ → SomeSections → List FetchedSection → Type 0
 AreShown at state [] = Unit {0}
 AreShown at state (part ∷ others) = (part.at ≡ at) × (rows_of part.section state ≡ Some part.rows) × AreShown at state others
 
+-- the queue is in registration
+abbrev pub is_opening_in : QueueId → History → Bool
+is_opening_in queue history = is_opening_phase (account_of pushed_events queue (trace_at (serving queue.user history) history.shards)).phase
+
+-- a section is fetched for the user of an opening queue
+pub record PlaysFetch (queue : QueueId) (which : Section) (at : ℕ) (before after : History) : Type 0 where
+  pub opening : is_opening_in queue before ≡ true
+  pub rows : Rows
+  pub fetches : after ≡ with_fetch queue.user before (record { section = which; rows = rows; at = at })
+
+-- a fetch for the user of an opening queue is refused
+pub record PlaysRefusedPart (queue : QueueId) (which : Section) (before after : History) : Type 0 where
+  pub opening : is_opening_in queue before ≡ true
+  pub refused : after ≡ with_realm_step (realm.Fetch queue.user which) realm_reply.FetchRefused before
+
+-- a section that lines fetched for a queue, and the commit at which they did
+pub record Fetching : Type 0 where
+  pub section : Section
+  pub at : ℕ
+
+-- one that is fetched again replaces the first
+abbrev pub with_fetching : Fetching → List Fetching → List Fetching
+with_fetching new [] = new ∷ []
+with_fetching new (first ∷ others) = if same_section new.section first.section then new ∷ others else first ∷ with_fetching new others
+
+abbrev pub fetching_of : FetchedSection → Fetching
+fetching_of part = record { section = part.section; at = part.at }
+
+-- the queue is finished with what was fetched for it, and this is the reply to that
+pub record PlaysFinish (queue : QueueId) (fetched : List Fetching) (reply : List FetchedSection → ShardReply) (before after : History) : Type 0 where
+  pub parts : List FetchedSection
+  pub were_fetched : map fetching_of parts ≡ fetched
+  pub finishes : after ≡ with_step_for queue.user (shard.Finish queue parts) (reply parts) before
+
 -- all sections are fetched, and shown as one state
 pub record PlaysView (user : UserId) (at : ℕ) (state : SomeSections) (before after : History) : Type 0 where
   pub parts : List FetchedSection
@@ -141,8 +178,9 @@ pub record PlaysView (user : UserId) (at : ℕ) (state : SomeSections) (before a
   pub shown : AreShown at state parts
   pub fetches : after ≡ with_fetches user parts before
 
--- a step that is asked at a moment after a history, what is printed for it, and the history after it
-module _ (moment : ℕ) where
+-- a step that is asked at a moment after a history, what is printed for it, and the history after it; for each queue lines before
+-- it fetched these sections
+module _ (moment : ℕ) (fetched : QueueId → List Fetching) where
   -- one step of the shard that serves the user, with this reply
   abbrev pub PlaysStart : UserId → Types → List Section → ShardReply → History → History → Type 0
   PlaysStart user types asked reply before after = after ≡ with_step_for user (shard.Start user salt moment types asked) reply before
@@ -165,6 +203,17 @@ module _ (moment : ℕ) where
   Plays (Push index) (Pushed reached) before after = PlaysPush index reached before after
   Plays (PushFrom index first) (Pushed reached) before after = PlaysPushFrom index first (shard_reply.Pushed reached) before after
   Plays (PushFrom index first) (Gap have from) before after = PlaysPushFrom index first (shard_reply.Gap have from) before after
+  Plays (OpenQueue user types asked) (Opened queue at) before after = after ≡ with_opening moment user types asked queue at before
+  Plays (OpenQueue user types asked) OpensSpent before after = PlaysStart user types asked shard_reply.OpensSpent before after
+  Plays (OpenQueue user types asked) TooManyQueues before after = PlaysStart user types asked shard_reply.TooManyQueues before after
+  Plays (Fetch queue section) (Fetched which at) before after = (which ≡ section) × PlaysFetch queue section at before after
+  Plays (Fetch queue section) FetchRefused before after = PlaysRefusedPart queue section before after
+  Plays (Fetch queue section) BadQueue before after = (is_opening_in queue before ≡ false) × (after ≡ before)
+  Plays (Finish queue) (Finished reached other last state) before after =
+      (other ≡ queue) × PlaysFinish queue (fetched queue) (λ parts. shard_reply.Finished state last reached) before after
+  Plays (Finish queue) (MissingSection which) before after = PlaysFinish queue (fetched queue) (shard_reply.MissingSection which) before after
+  Plays (Finish queue) (NotPushed have need) before after = PlaysFinish queue (fetched queue) (shard_reply.NotPushed have need) before after
+  Plays (Finish queue) BadQueue before after = PlaysFinish queue [] (λ parts. shard_reply.BadQueue) before after
   Plays (Register user types asked) (Finished reached queue last state) before after =
       PlaysRegister moment user types asked queue (shard_reply.Finished state last reached) before after
   Plays (Register user types asked) BadQueue before after =
@@ -194,6 +243,17 @@ pub record Turn : Type 0 where
 abbrev pub steps_in : List Turn → List Step
 steps_in turns = map (λ (turn : Turn). turn.step) turns
 
+-- the sections that a line fetched for a queue
+abbrev pub fetched_after : QueueId → Step → Outcome → List Fetching → List Fetching
+fetched_after queue (Fetch other section) (Fetched which at) before =
+    if same_queue queue other then with_fetching (record { section = which; at = at }) before else before
+fetched_after queue step outcome before = before
+
+-- those that all lines fetched for it
+abbrev pub fetched_for : List Turn → QueueId → List Fetching
+fetched_for [] queue = []
+fetched_for (turn ∷ before) queue = fetched_after queue turn.step turn.outcome (fetched_for before queue)
+
 -- these are the lines of a script, the latest first, with their turns and a history that they make, in this order: it begins with
 -- one shard, unless the first step makes another number of them
 abbrev pub IsPlayed : List (List ℕ) → List Turn → History → Type 0
@@ -202,4 +262,4 @@ IsPlayed (line ∷ lines) [] history = IsPassedOver line × IsPlayed lines [] hi
 IsPlayed (line ∷ lines) (turn ∷ turns) history =
     (IsPassedOver line × IsPlayed lines (turn ∷ turns) history)
     ⊎ (Spells (setting_of (steps_in turns)) line turn.step
-    × ((before : History) × Plays (moment_of (steps_in turns)) turn.step turn.outcome before history × IsPlayed lines turns before))
+    × ((before : History) × Plays (moment_of (steps_in turns)) (fetched_for turns) turn.step turn.outcome before history × IsPlayed lines turns before))

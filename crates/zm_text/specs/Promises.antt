@@ -7,7 +7,6 @@ use Rattle.ev_types.specs.declared.kind.Types.{Types}
 use Rattle.ev_types.specs.declared.section.Section.{Section}
 use Rattle.ev_types.specs.declared.state.Rows.{Rows}
 use Rattle.ev_types.specs.declared.state.State.{State}
-use Rattle.ev_types.specs.Feeders.{covers}
 use Rattle.ev_types.specs.OneSection.{rows_of}
 use Rattle.ev_types.specs.Sections.{sections_of, all_of}
 use Rattle.zr_types.specs.Visibility.{is_active_user}
@@ -20,7 +19,7 @@ use Rattle.zm_text.specs.declared.outcome.Outcome.{Outcome}
 use Rattle.zm_text.specs.declared.outcome.Outcome.TheVariants.{Committed, Finished, Viewed}
 use Rattle.zs_script.specs.Scripts.{moment_of}
 use Rattle.zm_text.specs.Playing.{Turn, steps_in}
-use Rattle.zm_text.specs.Clients.{Registration, client_of, is_among, is_followed, is_taken, items_told, reached_by, registration_of}
+use Rattle.zm_text.specs.Clients.{Registration, client_of, is_followed, is_taken, items_told, reached_by, registration_of}
 
 -- the commands whose line of output says committed, each with its moment, the latest first
 abbrev pub accepted_by : ℕ → Step → Outcome → List Accepted → List Accepted
@@ -52,14 +51,14 @@ RegistersAreRecent turns =
     turns ≡ later ++ record { step = Register user types asked; outcome = Finished reached queue last state } ∷ before →
     IsRecent user reached queue (accepted before)
 
--- in a register reply each section that is asked for and that the types cover is that of the view at the commit reached
+-- in a register reply each section that is asked for and that the types cover is that of the view at the commit reached, whether
+-- one line registered or lines opened, fetched and finished
 abbrev pub RegistersAreFresh : List Turn → Type 0
 RegistersAreFresh turns =
-    (later before : List Turn) (user : UserId) (types : Types) (asked : List Section)
-    (reached : ℕ) (queue : QueueId) (last : ℤ) (state : State) (which : Section) →
-    turns ≡ later ++ record { step = Register user types asked; outcome = Finished reached queue last state } ∷ before →
-    is_among asked which ≡ true → covers types which ≡ true →
-    IsSeen user which reached (accepted turns) (rows_of which (sections_of state))
+    (later before : List Turn) (step : Step) (reached : ℕ) (queue : QueueId) (last : ℤ) (state : State) (which : Section) →
+    turns ≡ later ++ record { step = step; outcome = Finished reached queue last state } ∷ before →
+    is_followed queue which (record { step = step; outcome = Finished reached queue last state } ∷ before) ≡ true →
+    IsSeen queue.user which reached (accepted turns) (rows_of which (sections_of state))
 
 -- what a client has of a section at a commit that was made by then is the view's
 pub record HasView (user : UserId) (which : Section) (reached : ℕ) (earlier all : List Accepted) (client : Option Client) : Type 0 where

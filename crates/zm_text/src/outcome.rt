@@ -36,11 +36,30 @@ pub enum Outcome {
         have: u64,
         first: u64,
     },
+    /// A queue was opened where these many notices were pushed.
+    Opened {
+        queue: QueueId,
+        position: u64,
+    },
+    /// A section was fetched for a queue after these many commits.
+    Fetched {
+        section: Section,
+        at: u64,
+    },
     Finished {
         reached: u64,
         queue: QueueId,
         last_event_id: i64,
         state: State,
+    },
+    /// The first section that was asked for and wasn't fetched.
+    MissingSection {
+        section: Section,
+    },
+    /// These many notices were pushed, fewer than the latest fetch needs.
+    NotPushed {
+        have: u64,
+        need: u64,
     },
     OpensSpent,
     TooManyQueues,

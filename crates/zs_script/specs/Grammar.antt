@@ -21,9 +21,9 @@ use Rattle.zs_words.specs.declared.names.SubProperty.{SubProperty as SubName}
 use Rattle.zs_words.specs.declared.names.SubProperty.TheVariants as sub
 use Rattle.zs_script.specs.declared.step.Setting.{Setting}
 use Rattle.zs_script.specs.declared.step.Step.{Step}
-use Rattle.zs_script.specs.declared.step.Step.TheVariants.{Command, Shards, NoticeAll, Push, PushFrom, Register, Poll, DeleteQueue, Tick, Locate, View}
+use Rattle.zs_script.specs.declared.step.Step.TheVariants.{Command, Shards, NoticeAll, Push, PushFrom, OpenQueue, Fetch, Finish, Register, Poll, DeleteQueue, Tick, Locate, View}
 use Rattle.zs_words.specs.Lists.{IsUsers, IsMessages, IsTypes, IsFetch}
-use Rattle.zs_words.specs.Names.{adds, IsLineName, IsSubProperty, IsNameField, IsPrivacy, IsMode, IsOperation, IsFlag, IsTruth}
+use Rattle.zs_words.specs.Names.{adds, IsLineName, IsSubProperty, IsNameField, IsPrivacy, IsMode, IsOperation, IsFlag, IsSection, IsTruth}
 use Rattle.zs_words.specs.Numbers.{IsUser, IsStream, IsMessage, IsShard, IsShardCount, IsNoticeNumber, IsMoment, IsRole, IsQueue, IsEventNumber}
 use Rattle.zs_words.specs.StreamRefs.{IsStreamRef}
 use Rattle.zs_words.specs.Texts.{IsText}
@@ -101,12 +101,12 @@ CommandSpells name (first ∷ arguments) step =
     (actor : UserId) × (change : Change)
     × IsUser first actor × ArgumentsSpell name arguments change × (step ≡ Command actor change)
 
--- the words after its name spell a registration: the user, the types, and what is fetched
-abbrev pub RegisterSpells : List (List ℕ) → Step → Type 0
-RegisterSpells (a ∷ b ∷ c ∷ []) step =
+-- the words after its name spell an opening or a registration: the user, the types, and what is fetched
+abbrev pub AskingSpells : (UserId → Types → List Section → Step) → List (List ℕ) → Step → Type 0
+AskingSpells make (a ∷ b ∷ c ∷ []) step =
     (user : UserId) × (types : Types) × (asked : List Section)
-    × IsUser a user × IsTypes b types × IsFetch types c asked × (step ≡ Register user types asked)
-RegisterSpells words step = ⊥
+    × IsUser a user × IsTypes b types × IsFetch types c asked × (step ≡ make user types asked)
+AskingSpells make words step = ⊥
 
 -- the word after its name spells a number of shards; only the first step may
 abbrev pub ShardsSpells : Setting → List (List ℕ) → Step → Type 0
@@ -127,7 +127,10 @@ RestSpells setting (line.Command name) rest step = CommandSpells name rest step
 RestSpells setting line.Shards rest step = ShardsSpells setting rest step
 RestSpells setting line.Notice rest step = (rest ≡ []) × (step ≡ NoticeAll)
 RestSpells setting line.Push rest step = PushSpells setting rest step
-RestSpells setting line.Register rest step = RegisterSpells rest step
+RestSpells setting line.Open rest step = AskingSpells OpenQueue rest step
+RestSpells setting line.Fetch rest step = Two IsQueue IsSection Fetch rest step
+RestSpells setting line.Finish rest step = One IsQueue Finish rest step
+RestSpells setting line.Register rest step = AskingSpells Register rest step
 RestSpells setting line.Poll rest step = PollSpells false rest step
 RestSpells setting line.Beat rest step = PollSpells true rest step
 RestSpells setting line.DeleteQueue rest step = Two IsUser IsQueue DeleteQueue rest step

@@ -43,6 +43,22 @@ pub enum Step {
         types: Types,
         asked: Listed<Section>,
     },
+    /// Opens a queue of a user that receives these kinds of events, to be finished with these
+    /// sections. Each section stands once, in the order of the sections.
+    OpenQueue {
+        user: UserId,
+        types: Types,
+        asked: Listed<Section>,
+    },
+    /// Fetches a section for an opening queue. One that is fetched again replaces the first.
+    Fetch {
+        queue: QueueId,
+        section: Section,
+    },
+    /// Finishes an opening queue with the sections that were fetched for it.
+    Finish {
+        queue: QueueId,
+    },
     /// Asks a queue for its items above `after`, and where `beat` is set for a heartbeat where there
     /// is none.
     Poll {

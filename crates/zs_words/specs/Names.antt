@@ -51,6 +51,9 @@ line_name (line.Command command) = command_name command
 line_name line.Shards = codes "shards"
 line_name line.Notice = codes "notice"
 line_name line.Push = codes "push"
+line_name line.Open = codes "open"
+line_name line.Fetch = codes "fetch"
+line_name line.Finish = codes "finish"
 line_name line.Register = codes "register"
 line_name line.Poll = codes "poll"
 line_name line.Beat = codes "beat"
@@ -86,6 +89,9 @@ lines =
     ∷ line.Shards
     ∷ line.Notice
     ∷ line.Push
+    ∷ line.Open
+    ∷ line.Fetch
+    ∷ line.Finish
     ∷ line.Register
     ∷ line.Poll
     ∷ line.Beat
@@ -175,6 +181,18 @@ kinds =
     ∷ kind.Heartbeat
     ∷ []
 
+-- the name of a section in a state
+abbrev pub section_name : Section → List ℕ
+section_name section.Realm = codes "realm"
+section_name section.RealmUsers = codes "realm_users"
+section_name section.Streams = codes "streams"
+section_name section.Subscriptions = codes "subscriptions"
+section_name section.Subscribers = codes "subscribers"
+section_name section.Messages = codes "messages"
+section_name section.Reactions = codes "reactions"
+section_name section.StarredMessages = codes "starred_messages"
+section_name section.UnreadMessages = codes "unread_msgs"
+
 -- the name by which a section is fetched
 abbrev pub fetch_name : Section → List ℕ
 fetch_name section.Realm = codes "realm"
@@ -228,3 +246,6 @@ IsFlag = IsNameAmong flags flag_name
 
 abbrev pub IsTruth : List ℕ → Bool → Type 0
 IsTruth = IsNameAmong truth_values truth_name
+
+abbrev pub IsSection : List ℕ → Section → Type 0
+IsSection = IsNameAmong all_sections section_name

@@ -4,10 +4,10 @@
 ghost use Rattle.std.specs.Prelude.{◌≡◌, List, ℕ, bytes_eq, codes, find, [], ◌∷◌};
 ghost use Rattle.ev_types.specs.Feeders.{kind_name};
 ghost use Rattle.zs_words.specs.Names as names;
-ghost use Rattle.zs_words.specs.Names.{adds, command_name, field_name, flag_name, line_name, mode_name, operation_name, privacy_name, sub_name, truth_name};
+ghost use Rattle.zs_words.specs.Names.{adds, command_name, field_name, flag_name, line_name, mode_name, operation_name, privacy_name, section_name, sub_name, truth_name};
 
 use ev_base::{Flag, Privacy};
-use ev_types::EventKind;
+use ev_types::{EventKind, Section};
 use zr_types::{Mode, NameField};
 
 /// The names of the commands.
@@ -43,6 +43,9 @@ pub enum LineName {
     Shards,
     Notice,
     Push,
+    Open,
+    Fetch,
+    Finish,
     Register,
     Poll,
     Beat,
@@ -160,6 +163,9 @@ impl Named for LineName {
             LineName::Shards,
             LineName::Notice,
             LineName::Push,
+            LineName::Open,
+            LineName::Fetch,
+            LineName::Finish,
             LineName::Register,
             LineName::Poll,
             LineName::Beat,
@@ -176,6 +182,9 @@ impl Named for LineName {
             LineName::Shards => "shards",
             LineName::Notice => "notice",
             LineName::Push => "push",
+            LineName::Open => "open",
+            LineName::Fetch => "fetch",
+            LineName::Finish => "finish",
             LineName::Register => "register",
             LineName::Poll => "poll",
             LineName::Beat => "beat",
@@ -334,5 +343,39 @@ impl Named for EventKind {
 
     fn name(self) -> &'static str {
         EventKind::name(self)
+    }
+}
+
+impl Named for Section {
+    ghost values = { names.all_sections };
+
+    ghost name_of = { section_name };
+
+    fn values() -> &'static [Section] {
+        &[
+            Section::Realm,
+            Section::RealmUsers,
+            Section::Streams,
+            Section::Subscriptions,
+            Section::Subscribers,
+            Section::Messages,
+            Section::Reactions,
+            Section::StarredMessages,
+            Section::UnreadMessages,
+        ]
+    }
+
+    fn name(self) -> &'static str {
+        match self {
+            Section::Realm => "realm",
+            Section::RealmUsers => "realm_users",
+            Section::Streams => "streams",
+            Section::Subscriptions => "subscriptions",
+            Section::Subscribers => "subscribers",
+            Section::Messages => "messages",
+            Section::Reactions => "reactions",
+            Section::StarredMessages => "starred_messages",
+            Section::UnreadMessages => "unread_msgs",
+        }
     }
 }
