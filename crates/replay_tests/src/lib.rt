@@ -10,6 +10,8 @@ mod ports;
 #[cfg(test)]
 mod queue_stories;
 #[cfg(test)]
+mod registration_stories;
+#[cfg(test)]
 mod run;
 #[cfg(test)]
 mod stories;

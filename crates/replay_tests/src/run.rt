@@ -1,7 +1,10 @@
 //! The run of a script, from the bytes that are read to the bytes that are written.
 
 use crate::checks::check_text;
-use crate::{message_stories as later, queue_stories as queues, stories as story};
+use crate::{
+    message_stories as later, queue_stories as queues, registration_stories as registrations,
+    stories as story,
+};
 use ev_ports::{MemSink, MemSource};
 use std::alloc::{AllocError, Global};
 use std::process::Abort;
@@ -238,6 +241,17 @@ fn each_story_of_queues_is_told(rt: HostRuntime) -> Result<(), Fail> {
 }
 
 #[test]
+fn each_registration_by_sections_is_told(rt: HostRuntime) -> Result<(), Fail> {
+    for (script, told) in &registrations::STORIES {
+        check_story(&rt, rt.alloc(), script, told)?;
+    }
+    for (script, told) in &registrations::LATER_STORIES {
+        check_later(&rt, rt.alloc(), script, told)?;
+    }
+    Ok(())
+}
+
+#[test]
 fn three_shards_are_pushed_and_ticked_each(rt: HostRuntime) -> Result<(), Fail> {
     check_story(
         &rt,
@@ -290,10 +304,10 @@ fn a_user_has_32_queues_at_most(rt: HostRuntime) -> Result<(), Fail> {
 
 #[test]
 fn a_deleted_queue_makes_room_for_another(rt: HostRuntime) -> Result<(), Fail> {
-    let mut script = repeated(rt.alloc(), ADD_ANN, "register 1 - -\n", 33)?;
-    script.extend_from_slice(b"delete_queue 1 1.0\nregister 1 - -\npoll 1 1.32 -1\n")?;
+    let mut script = repeated(rt.alloc(), ADD_ANN, "open 1 * -\n", 33)?;
+    script.extend_from_slice(b"delete_queue 1 1.0\nopen 1 * -\n")?;
     let replayed = replay_with_faults(rt.alloc(), &script, &[], &[])?;
-    assert_eq!(rt; last_line(&replayed.1), "empty 1");
+    assert_eq!(rt; last_line(&replayed.1), "opened 1.32 0");
     Ok(())
 }
 
