@@ -12,10 +12,10 @@ use Rattle.zm_text.specs.declared.outcome.Outcome.{Outcome}
 use Rattle.zm_text.specs.declared.outcome.Outcome.TheVariants.{Sharded}
 use Rattle.zm_text.specs.Playing.{Fetching, IsPlayed, Plays, Turn, fetched_for, steps_in}
 
--- a step at a moment, with what lines fetched for each queue; one that says how many shards there are does nothing more
+-- a step at a moment, after what was fetched for the queues; one that says how many shards there are does nothing more
 abbrev pub GoesOn : ℕ → (QueueId → List Fetching) → Step → Outcome → History → History → Type 0
-GoesOn moment fetched (Shards count) (Sharded made) before after = (made ≡ count) × (after ≡ before)
-GoesOn moment fetched step outcome before after = Plays moment fetched step outcome before after
+GoesOn moment parts (Shards count) (Sharded made) before after = (made ≡ count) × (after ≡ before)
+GoesOn moment parts step outcome before after = Plays moment parts step outcome before after
 
 -- these turns make this history, from the opening history of these many shards
 abbrev pub IsCourse : ℕ → List Turn → History → Type 0

@@ -1,5 +1,5 @@
 -- What a step gives after a standing: what is printed, and the standing that it leaves.
-use Rattle.std.proofs.Common.{◌≡◌, ℕ, zero, suc, ◌+◌, max, Bool, true, false, nat_lt, if◌then◌else◌, List, [], ◌∷◌, flat_map, length, map, refl, ◌∙◌}
+use Rattle.std.proofs.Common.{◌≡◌, ℕ, zero, suc, ◌+◌, max, Bool, true, false, nat_lt, if◌then◌else◌, List, [], ◌∷◌, flat_map, length, map, refl}
 use Rattle.ev_base.specs.declared.ids.UserId.{UserId}
 use Rattle.ev_base.specs.declared.ids.QueueId.{QueueId}
 use Rattle.ev_base.specs.declared.expired.Expired.{Expired}
@@ -130,16 +130,20 @@ module _ (all : List Accepted) where
   abbrev pub is_opening_at : QueueId → Standing → ℕ → Bool
   is_opening_at queue before index = is_opening_phase ((shard_state all index before).account queue).phase
 
-  -- with what was fetched for it
+  -- a finish with what was fetched for its queue
   abbrev pub finished_by : QueueId → List Fetching → Standing → ℕ → Bool → Ran
-  finished_by queue list before index opening = served queue (shard.Finish queue (parts_given all queue list opening)) before index
+  finished_by queue list before index opening =
+      served queue (shard.Finish queue (parts_given all queue list opening)) before index
 
   abbrev pub finished : QueueId → List Fetching → Standing → ℕ → Ran
-  finished queue list before index = finished_by queue list before index (is_opening_at queue before index)
+  finished queue list before index =
+      finished_by queue list before index (is_opening_at queue before index)
 
-  abbrev pub fetched_for_it : QueueId → Section → Standing → ℕ → Ran
-  fetched_for_it queue which before index =
-      fetched_part which (is_opening_at queue before index) (is_active_user (state_of before.commands).tables queue.user) before
+  -- one section that is fetched for a queue
+  abbrev pub fetched_one : QueueId → Section → Standing → ℕ → Ran
+  fetched_one queue which before index =
+      fetched_part which (is_opening_at queue before index)
+      (is_active_user (state_of before.commands).tables queue.user) before
 
   abbrev pub pushed_to : ℕ → Standing → Ran
   pushed_to index after = record { outcome = Pushed (shard_state all index after).position; standing = after }
@@ -161,8 +165,10 @@ module _ (all : List Accepted) where
   module _ (moment : ℕ) where
     -- by the shard's reply to the start of a queue
     abbrev pub opened : UserId → Types → List Section → ℕ → ShardReply → Standing → Ran
-    opened user types asked index reply before =
-        record { outcome = told_of_start reply; standing = with_step all index (shard.Start user salt moment types asked) reply before }
+    opened user types asked index reply before = record {
+      outcome = told_of_start reply;
+      standing = with_step all index (shard.Start user salt moment types asked) reply before;
+    }
 
     -- and where a registration goes on from there
     abbrev pub started : UserId → Types → List Section → ℕ → ShardReply → Standing → Ran
@@ -172,11 +178,13 @@ module _ (all : List Accepted) where
     started user types asked index reply before = opened user types asked index reply before
 
     -- what the shard that serves a user replies to the start of a queue, read so
-    abbrev pub by_start : (ℕ → ShardReply → Standing → Ran) → UserId → Types → List Section → Standing → ℕ → Ran
+    abbrev pub by_start : (ℕ → ShardReply → Standing → Ran) → UserId → Types → List Section
+        → Standing → ℕ → Ran
     by_start reads user types asked before index =
         reads index (reply_of all index before (shard.Start user salt moment types asked)) before
 
-    -- what a step at this moment gives, over all commands of a history, with what lines fetched for each queue
+    -- what a step at this moment gives, over all commands of a history, with what lines fetched
+    -- for each queue
     module _ (fetchings : QueueId → List Fetching) where
       abbrev pub run : Step → Standing → Ran
       run (Command actor command) before = commanded moment actor command (commit_reply before.commands actor command) before
@@ -189,7 +197,7 @@ module _ (all : List Accepted) where
       run (PushFrom index first) before = pushed_from index first before (nat_lt ((shard_state all index before).position + 1) first)
       run (OpenQueue user types asked) before =
           by_start (opened user types asked) user types asked before (shard_of (length before.states) user)
-      run (Fetch queue which) before = fetched_for_it queue which before (shard_of (length before.states) queue.user)
+      run (Fetch queue which) before = fetched_one queue which before (shard_of (length before.states) queue.user)
       run (Finish queue) before = finished queue (fetchings queue) before (shard_of (length before.states) queue.user)
       run (Register user types asked) before =
           by_start (started user types asked) user types asked before (shard_of (length before.states) user)
