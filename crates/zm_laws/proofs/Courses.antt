@@ -1,6 +1,7 @@
 -- What is played, as steps over shards that are there from the first step on.
 use Rattle.std.proofs.Common.{◌≡◌, ℕ, ◌≤◌, true, List, [], ◌∷◌, refl, ap, sym, subst, inl, inr, arith}
 use Rattle.std.proofs.lemmas.Bool.{false≢true}
+use Rattle.ev_base.specs.declared.ids.QueueId.{QueueId}
 use Rattle.zw_traces.specs.Histories.{History, opening_history}
 use Rattle.zs_script.specs.declared.step.Setting.{Setting}
 use Rattle.zs_script.specs.declared.step.Step.{Step}
@@ -9,18 +10,18 @@ use Rattle.zs_script.specs.Grammar.{Spells}
 use Rattle.zs_script.specs.Scripts.{AreSpelled, MayPlay, is_none_of, moment_of, setting_of, shards_of}
 use Rattle.zm_text.specs.declared.outcome.Outcome.{Outcome}
 use Rattle.zm_text.specs.declared.outcome.Outcome.TheVariants.{Sharded}
-use Rattle.zm_text.specs.Playing.{IsPlayed, Plays, Turn, steps_in}
+use Rattle.zm_text.specs.Playing.{Fetching, IsPlayed, Plays, Turn, fetched_for, steps_in}
 
--- a step at a moment; one that says how many shards there are does nothing more
-abbrev pub GoesOn : ℕ → Step → Outcome → History → History → Type 0
-GoesOn moment (Shards count) (Sharded made) before after = (made ≡ count) × (after ≡ before)
-GoesOn moment step outcome before after = Plays moment step outcome before after
+-- a step at a moment, after what was fetched for the queues; one that says how many shards there are does nothing more
+abbrev pub GoesOn : ℕ → (QueueId → List Fetching) → Step → Outcome → History → History → Type 0
+GoesOn moment parts (Shards count) (Sharded made) before after = (made ≡ count) × (after ≡ before)
+GoesOn moment parts step outcome before after = Plays moment parts step outcome before after
 
 -- these turns make this history, from the opening history of these many shards
 abbrev pub IsCourse : ℕ → List Turn → History → Type 0
 IsCourse shards [] history = history ≡ opening_history shards
 IsCourse shards (turn ∷ turns) history =
-    (before : History) × GoesOn (moment_of (steps_in turns)) turn.step turn.outcome before history
+    (before : History) × GoesOn (moment_of (steps_in turns)) (fetched_for turns) turn.step turn.outcome before history
     × MayPlay shards turn.step × IsCourse shards turns before
 
 -- the lines spell the steps of their turns
@@ -48,7 +49,7 @@ pub record HasCourse (turns : List Turn) (history : History) : Type 0 where
 
 module _ (may : MayBePlayed) (first : ShardsComeFirst) where
   course_more : (line : List ℕ) (step : Step) (outcome : Outcome) (turns : List Turn) (before history : History) → Spells (setting_of (steps_in turns)) line step
-      → Plays (moment_of (steps_in turns)) step outcome before history → HasCourse turns before → HasCourse (record { step = step; outcome = outcome } ∷ turns) history
+      → Plays (moment_of (steps_in turns)) (fetched_for turns) step outcome before history → HasCourse turns before → HasCourse (record { step = step; outcome = outcome } ∷ turns) history
   course_more line (Shards count) (Sharded made) turns before history spells plays rest =
       let may_be = may (setting_of (steps_in turns)) line (Shards count) spells in
       subst (λ (list : List Turn). HasCourse (record { step = Shards count; outcome = Sharded made } ∷ list) history)

@@ -9,6 +9,7 @@ pub mod PlayedPromises
 pub mod TraceStates
 pub mod FullStates
 pub mod OneReply
+pub mod FetchedParts
 pub mod Standings
 pub mod Rounds
 pub mod Runs

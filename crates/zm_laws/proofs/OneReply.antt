@@ -1,7 +1,9 @@
 -- The one reply that is right after some steps, but for out of memory and for the room of states.
-use Rattle.std.proofs.Common.{◌≡◌, ◌≢◌, ℕ, ◌+◌, ◌-◌, max, Bool, true, false, ◌&&◌, ◌||◌, nat_lt, nat_le, if◌then◌else◌, Option, None, Some, List, length, refl, ap, sym, ◌∙◌, inl, inr, MatchBool, MatchOption}
+use Rattle.std.proofs.Common.{◌≡◌, ◌≢◌, ℕ, ◌+◌, ◌-◌, max, Bool, true, false, ◌&&◌, ◌||◌, nat_lt, nat_le, if◌then◌else◌, Option, None, Some, List, length, ℤ, refl, ap, sym, ◌∙◌, inl, inr, MatchBool, MatchOption}
 use Rattle.ev_base.specs.declared.ids.UserId.{UserId}
+use Rattle.ev_base.specs.declared.ids.QueueId.{QueueId}
 use Rattle.ev_types.specs.declared.section.Section.{Section}
+use Rattle.ev_types.specs.declared.state.State.{State}
 use Rattle.zr_types.specs.declared.command.Command.{Command}
 use Rattle.zr_types.specs.declared.command.Committed.{Committed}
 use Rattle.zr_types.specs.declared.command.Refusal.{Refusal}
@@ -118,6 +120,32 @@ reply_is reading s (Delete user queue) reply answers memory =
     choice_is (is_held (s.account queue) && same_user queue.user user) _ _ reply Deleted BadQueue (λ is. ap full_reply is) (λ is. ap full_reply is) answers
 reply_is reading s (Tick moment) reply answers memory = remembered reply (Ticked (expiries s moment)) refl memory answers
 reply_is reading s Locate reply answers memory = ap full_reply answers
+
+-- a finish that isn't refused is of an opening queue
+pub opened_finish : (reading : Reading) (s : ShardAccount) (queue : QueueId) (parts : List FetchedSection) (reply : ShardReply) → reply ≢ BadQueue
+    → reply ≡ reply_in reading s (Finish queue parts) → is_opening_phase (s.account queue).phase ≡ true
+opened_finish reading s queue parts reply not is = go _ (is_opening_phase (s.account queue).phase) is
+  where
+    go : (other : ShardReply) (opening : Bool) → reply ≡ (if opening then other else BadQueue) → opening ≡ true
+    go other true is = refl
+    go other false is = absurd (not is)
+
+-- and one that is refused is of another
+pub lost_finish : (reading : Reading) (s : ShardAccount) (queue : QueueId) (parts : List FetchedSection)
+    → BadQueue ≡ reply_in reading s (Finish queue parts) → is_opening_phase (s.account queue).phase ≡ false
+lost_finish reading s queue parts is =
+    let a = s.account queue in
+    let need = needed a.asked parts in
+    let state = state_with (sections_from (reading queue.user a s.position parts)) in
+    go need (id_of a.next) state (is_opening_phase a.phase) (first_missing all_sections a.asked parts) (nat_lt s.position need) is
+  where
+    go : (need : ℕ) (last : ℤ) (state : State) (opening : Bool) (missing : Option Section) (early : Bool)
+        → BadQueue ≡ (if opening then missing_or missing parts (if early then NotPushed s.position need parts else Finished state last s.position) else BadQueue)
+        → opening ≡ false
+    go need last state false missing early is = refl
+    go need last state true (Some which) early is = cc
+    go need last state true None true is = cc
+    go need last state true None false is = cc
 
 -- the refusal, or the other reply
 abbrev pub refused_or : Option Refusal → RealmReply → RealmReply

@@ -10,7 +10,7 @@ use Rattle.zs_script.specs.Scripts.{moment_of, shards_of}
 use Rattle.zm_text.specs.declared.outcome.Outcome.TheVariants.{Finished, Viewed}
 use Rattle.zm_text.specs.Clients.{client_of, items_told, registration_of}
 use Rattle.zm_text.specs.Promises.{ClientsAreFresh, IdsAreSteady, ReadersAreActive, RegistersAreFresh, RegistersAreRecent, ViewsAreFresh, accepted, accepted_by}
-use Rattle.zm_text.specs.Playing.{Turn, steps_in}
+use Rattle.zm_text.specs.Playing.{Turn, fetched_for, steps_in}
 use Rattle.zm_laws.proofs.ToldItems.{AllShown, one_event, shown_at}
 use Rattle.zm_laws.proofs.PlayedHistories.{Following, Known, WasThere, belongs_at, following_at_first}
 use Rattle.zm_laws.specs.Laws.{PromisesHold}
@@ -47,11 +47,11 @@ module _ (arrives : ℕ → Bool) where
       pub each : EachKeeps (commands final) turns
 
     -- with one line more
-    played_more : (turn : Turn) (turns : List Turn) (before history : History) → GoesOn (moment_of (steps_in turns)) turn.step turn.outcome before history
+    played_more : (turn : Turn) (turns : List Turn) (before history : History) → GoesOn (moment_of (steps_in turns)) (fetched_for turns) turn.step turn.outcome before history
         → WasThere final count history → (WasThere final count before → PlayedSo turns before) → PlayedSo (turn ∷ turns) history
     played_more turn turns before history plays there earlier =
         let moment = moment_of (steps_in turns) in
-        let turning = turned final count legal_final moment turn.step turn.outcome before history plays there in
+        let turning = turned final count legal_final moment (fetched_for turns) turn.step turn.outcome before history plays there in
         let so_far = earlier turning.there in
         record {
           accepted_are = ap (accepted_by moment turn.step turn.outcome) so_far.accepted_are ∙ turning.accepts;
@@ -86,11 +86,11 @@ module _ (turns : List Turn) (each : (arrives : ℕ → Bool) → EachKeeps arri
   -- each promise about one line
   registers_are_recent : RegistersAreRecent turns
   registers_are_recent later before user types asked reached queue last state is =
-      (keeps_at all_arrive later before (record { step = Register user types asked; outcome = Finished reached queue last state }) is).line.recent
+      (keeps_at all_arrive later before (record { step = Register user types asked; outcome = Finished reached queue last state }) is).line
 
   registers_are_fresh : RegistersAreFresh turns
-  registers_are_fresh later before user types asked reached queue last state which is among covered =
-      (keeps_at all_arrive later before (record { step = Register user types asked; outcome = Finished reached queue last state }) is).line.fresh which among covered
+  registers_are_fresh later before step reached queue last state which is told =
+      (keeps_at all_arrive later before (record { step = step; outcome = Finished reached queue last state }) is).fresh which told
 
   clients_are_fresh : ClientsAreFresh turns
   clients_are_fresh arrives later before turn queue which reached is answered followed takes =

@@ -10,7 +10,6 @@ use Rattle.ev_types.specs.declared.section.Section.{Section}
 use Rattle.ev_types.specs.declared.state.Rows.{Rows}
 use Rattle.ev_types.specs.declared.state.Rows.TheVariants as of_section
 use Rattle.ev_types.specs.declared.state.State.{State}
-use Rattle.ev_types.specs.Feeders.{covers}
 use Rattle.ev_types.specs.OneSection.{rows_of}
 use Rattle.ev_types.specs.Sections.{SomeSections, all_of, sections_of}
 use Rattle.zr_types.specs.declared.command.Command.{Command as CommandOf}
@@ -35,14 +34,14 @@ use Rattle.zw_traces.specs.Account.{count_of, same_queue, same_user}
 use Rattle.zw_traces.specs.Histories.{History, shard_of, trace_at, with_realm_step, with_shard_step}
 use Rattle.zw_traces.specs.Clients.{Client, may_take}
 use Rattle.zw_traces.proofs.RealmTraces.{announced_within}
-use Rattle.zw_traces.proofs.Steps.{answered_tells, empty_tells, finished_tells, opened_tells, same_queue_is, same_queue_itself, same_user_is}
+use Rattle.zw_traces.proofs.Steps.{answered_tells, empty_tells, finished_tells, opened_tells, same_queue_is, same_user_is}
 use Rattle.zs_script.specs.declared.step.Step.{Step}
-use Rattle.zs_script.specs.declared.step.Step.TheVariants.{Command, Shards, NoticeAll, Push, PushFrom, Register, Poll, DeleteQueue, Tick, Locate, View}
+use Rattle.zs_script.specs.declared.step.Step.TheVariants.{Command, Shards, NoticeAll, Push, PushFrom, OpenQueue, Fetch, Finish, Register, Poll, DeleteQueue, Tick, Locate, View}
 use Rattle.zm_text.specs.declared.outcome.Outcome.{Outcome}
-use Rattle.zm_text.specs.declared.outcome.Outcome.TheVariants.{Committed, Refused, Sharded, Noticed, Pushed, Gap, Finished, OpensSpent, TooManyQueues, FetchRefused, Answered, Empty, BadQueue, NotSent, Pruned, Deleted, Ticked, At, Viewed}
-use Rattle.zm_text.specs.Clients.{Registration, client_after, is_among, is_taken, is_told, items_by, registration_after}
+use Rattle.zm_text.specs.declared.outcome.Outcome.TheVariants.{Committed, Refused, Sharded, Noticed, Pushed, Gap, Opened, Fetched, Finished, MissingSection, NotPushed, OpensSpent, TooManyQueues, FetchRefused, Answered, Empty, BadQueue, NotSent, Pruned, Deleted, Ticked, At, Viewed}
+use Rattle.zm_text.specs.Clients.{Registration, client_after, is_taken, is_told, items_by, registration_after}
 use Rattle.zm_text.specs.Promises.{HasView, IsActive, IsSeen, accepted_by}
-use Rattle.zm_text.specs.Playing.{AreShown, CatchesUp, PlaysPush, PlaysRefusedFetch, PlaysRefusedRegister, PlaysRegister, PlaysView, Round, TakesAndPushes, salt, sections, serving, with_fetches, with_opening, with_step_for}
+use Rattle.zm_text.specs.Playing.{AreShown, CatchesUp, Fetching, PlaysPush, PlaysRefusedFetch, PlaysRefusedRegister, PlaysRegister, PlaysView, Round, TakesAndPushes, salt, sections, serving, with_fetches, with_opening, with_step_for}
 use Rattle.zw_laws.proofs.FedSteps.{length-with_step_at}
 use Rattle.zm_text.proofs.Fetches.{AllParts, fetched_parts, fetches_shards, part_in, parts_are}
 use Rattle.zm_laws.proofs.TraceLists.{IsAt, trace_at-same}
@@ -66,7 +65,8 @@ known_opened queue r known = record known { registrations = λ q. cond (same_que
 -- a line that commits, tells a client, or shows a view
 abbrev IsTelling : Step → Outcome → Bool
 IsTelling (Command actor command) (Committed number id) = true
-IsTelling (Register user types asked) (Finished reached queue last state) = true
+IsTelling step (Finished reached queue last state) = true
+IsTelling (OpenQueue user types asked) (Opened queue position) = true
 IsTelling (Poll user queue after beat) (Answered reached other items) = true
 IsTelling (Poll user queue after beat) (Empty reached) = true
 IsTelling (View user) (Viewed at state) = true
@@ -183,7 +183,8 @@ module _ (final : List RealmStep) (count : ℕ) (legal_final : IsLegalRealm fina
     quiet_turn : (step : Step) (outcome : Outcome) (before after : History) → IsTelling step outcome ≡ false
         → Quiet final count legal_final before after → Turned step outcome before after
     quiet_turn (Command actor command) (Committed number id) before after not quiet = absurd (false≢true (sym not))
-    quiet_turn (Register user types asked) (Finished reached queue last state) before after not quiet = absurd (false≢true (sym not))
+    quiet_turn step (Finished reached queue last state) before after not quiet = absurd (false≢true (sym not))
+    quiet_turn (OpenQueue user types asked) (Opened queue position) before after not quiet = absurd (false≢true (sym not))
     quiet_turn (Poll user queue asked beat) (Answered reached other items) before after not quiet = absurd (false≢true (sym not))
     quiet_turn (Poll user queue asked beat) (Empty reached) before after not quiet = absurd (false≢true (sym not))
     quiet_turn (View user) (Viewed at state) before after not quiet = absurd (false≢true (sym not))
@@ -191,7 +192,7 @@ module _ (final : List RealmStep) (count : ℕ) (legal_final : IsLegalRealm fina
       there = quiet.there;
       accepts = sym quiet.same;
       keeps = λ arrives known following. quiet.keeps known following;
-      promised = λ arrives known following. record { line = tt; followed = λ queue reached is. cc; active = λ queue reached is. cc };
+      promised = λ arrives known following. record { line = tt; fresh = tt; followed = λ queue reached is. cc; active = λ queue reached is. cc };
     }
 
     -- a line that commits
@@ -202,7 +203,7 @@ module _ (final : List RealmStep) (count : ℕ) (legal_final : IsLegalRealm fina
       there = there_before_realm final count legal_final (realm.Commit actor moment command) (realm_reply.Committed reply) before there;
       accepts = refl;
       keeps = λ arrives known following. following_realm final count legal_final (realm.Commit actor moment command) (realm_reply.Committed reply) before known there following;
-      promised = λ arrives known following. record { line = tt; followed = λ queue reached is. cc; active = λ queue reached is. cc };
+      promised = λ arrives known following. record { line = tt; fresh = tt; followed = λ queue reached is. cc; active = λ queue reached is. cc };
     }
 
     -- one that ends where quiet steps are known to
@@ -264,9 +265,98 @@ module _ (final : List RealmStep) (count : ℕ) (legal_final : IsLegalRealm fina
           keeps = λ arrives known following. quiet.keeps known following;
           promised = λ arrives known following. record {
             line = record { counted = shows.counted; seen = shows.seen; active = shows.active };
+            fresh = tt;
             followed = λ queue reached is. cc;
             active = λ queue reached is. cc;
           };
+        })
+
+    -- the finish of a queue that is registered
+    module _ (reached : ℕ) (queue : QueueId) (last : ℤ) (state : State) (user : UserId) (parts : List FetchedSection) (caught : History)
+        (there : WasThere final count (with_step_for user (shard.Finish queue parts) (shard_reply.Finished state last reached) caught)) where
+      -- the history before it, and what it tells
+      there_caught : WasThere final count caught
+      there_caught = there_before_shard final count legal_final (serving user caught) (shard.Finish queue parts) (shard_reply.Finished state last reached) caught there
+
+      finished_at : 1 ≤ count → AnsweredAt final count (serving user caught) (shard.Finish queue parts) (shard_reply.Finished state last reached) (trace_at (serving user caught) caught.shards)
+      finished_at some = answered_at final count legal_final (serving user caught) (shard.Finish queue parts) (shard_reply.Finished state last reached) caught there (serving_inside user caught there_caught some).0
+
+      -- it tells where the shard stands, a number of commits that were made
+      reached_here : (known : Known) → Following final count legal_final known caught
+          → (reached ≡ position_of (trace_at (serving user caught) caught.shards)) × (reached ≤ commits caught.realm)
+      reached_here known following =
+          let i = serving user caught in
+          let trace = trace_at i caught.shards in
+          let all = commands final in
+          let tells = finished_tells queue.user (account_of (changed_events all) queue trace) (position_of trace) (viewed all) parts state last reached (finished_at following.some).answers in
+          (tells.reached_is, position_made i reached known caught there_caught following tells.reached_is)
+
+      -- it gives the clients of the queue the view
+      finished_keeps : (arrives : Bool) (known : Known) → Following final count legal_final known caught
+          → Following final count legal_final (known_after arrives (Finish queue) (Finished reached queue last state) known) (with_step_for user (shard.Finish queue parts) (shard_reply.Finished state last reached) caught)
+      finished_keeps arrives known following =
+          let i = serving user caught in
+          let finish = finished_at following.some in
+          let inside = (serving_inside user caught there_caught following.some).1 in
+          following_shard final count legal_final i (shard.Finish queue parts) (shard_reply.Finished state last reached) caught known
+          (known_after arrives (Finish queue) (Finished reached queue last state) known)
+          (record {
+            here = λ q trace belongs inner.
+                followed_step final q arrives trace (shard.Finish queue parts) (shard_reply.Finished state last reached) (known.clients q) (known.items q) (known.registrations q) belongs.legal inner;
+            elsewhere = λ q trace not inner.
+                let clients : Bool → Section → Option Client = λ same which.
+                cond same (option_map (λ rows. record { rows = rows; count = count_of last }) (rows_of which (sections_of state))) (known.clients q which) in
+                subst (λ same. IsFollowed final q (clients same) (known.items q) (known.registrations q) trace) (sym (other_queue i q queue finish.served inside not)) inner;
+          })
+          (λ answers within. within) there following
+
+      -- what the account of the queue says at the finish
+      opened_here : (known : Known) (r : Registration) → Following final count legal_final known caught → known.registrations queue ≡ Some r
+          → IsOpenedFor r (account_over final queue (trace_at (serving user caught) caught.shards))
+      opened_here known r following is =
+          subst (λ n. IsOpenedFor r (account_over final queue (trace_at n caught.shards))) (finished_at following.some).served ((following.followed queue).opened r is)
+
+      -- and it keeps what is promised of it
+      finished_is : (arrives : Bool) (known : Known) → Following final count legal_final known caught
+          → TurnKeeps (commands final) arrives (Finish queue) (Finished reached queue last state) (commands caught.realm) known
+      finished_is arrives known following =
+          let i = serving user caught in
+          let trace = trace_at i caught.shards in
+          let all = commands final in
+          let earlier = commands caught.realm in
+          let belongs = (finished_at following.some).belongs in
+          let made = (reached_here known following).1 in
+          let given : Section → Option Client = λ which. option_map (λ rows. record { rows = rows; count = count_of last }) (rows_of which (sections_of state)) in
+          let seen : (which : Section) → option_map_or (is_told which) (known.registrations queue) false ≡ true → IsSeen queue.user which reached all (rows_of which (sections_of state)) = λ which told.
+          let for = registered_for which (known.registrations queue) told in
+          finished_seen final count (0 + i) legal_final queue trace parts state last reached belongs for.r (opened_here known for.r following for.is) which for.among for.covered in
+          let Gives : QueueId → ℕ → Type 0 = λ o m. (which : Section) → option_map_or (is_told which) (known.registrations o) false ≡ true → HasView o.user which m earlier all (given which) in
+          let IsOf : QueueId → ℕ → Type 0 = λ o m. (r : Registration) → known.registrations o ≡ Some r → r.asked ≢ [] → IsActive o.user (prefix_of m all) in
+          let gives : Gives queue reached = λ which told.
+          record { made = made; has = record { rows = section_of which (view_after queue.user reached all); count = count_of last }; is = ap (option_map (λ rows. record { rows = rows; count = count_of last })) (seen which told); seen = refl } in
+          let active : IsOf queue reached = λ r is some.
+          finished_active final count (0 + i) legal_final queue trace parts state last reached belongs r (opened_here known r following is) some in
+          record {
+            line = tt;
+            fresh = seen;
+            followed = λ q n is which told takes.
+                let moved = at_same q queue n reached Gives gives (same_queue q queue) refl is in
+                subst (λ same. HasView q.user which n earlier all (cond same (given which) (known.clients q which))) (sym moved.0) (moved.1 which told);
+            active = λ q n is registration known_is some. (at_same q queue n reached IsOf active (same_queue q queue) refl is).1 registration known_is some;
+          }
+
+    -- a line that finishes a queue
+    finish_turn : (queue : QueueId) (parts : List FetchedSection) (reached : ℕ) (last : ℤ) (state : State) (before after : History)
+        → after ≡ with_step_for queue.user (shard.Finish queue parts) (shard_reply.Finished state last reached) before → WasThere final count after
+        → Turned (Finish queue) (Finished reached queue last state) before after
+    finish_turn queue parts reached last state before after is there =
+        let finish_there = subst (WasThere final count) is there in
+        subst (Turned (Finish queue) (Finished reached queue last state) before) (sym is)
+        (record {
+          there = there_caught reached queue last state queue.user parts before finish_there;
+          accepts = refl;
+          keeps = λ arrives known following. finished_keeps reached queue last state queue.user parts before finish_there arrives known following;
+          promised = λ arrives known following. finished_is reached queue last state queue.user parts before finish_there arrives known following;
         })
 
     module _ (user : UserId) (types : Types) (asked : List Section) where
@@ -306,6 +396,19 @@ module _ (final : List RealmStep) (count : ℕ) (legal_final : IsLegalRealm fina
             })
             (λ answers within. within) there following
 
+      -- a line that opens a queue
+      open_turn : (queue : QueueId) (have : ℕ) (before after : History) → after ≡ with_opening moment user types asked queue have before → WasThere final count after
+          → Turned (OpenQueue user types asked) (Opened queue have) before after
+      open_turn queue have before after is there =
+          let opened_there = subst (WasThere final count) is there in
+          subst (Turned (OpenQueue user types asked) (Opened queue have) before) (sym is)
+          (record {
+            there = there_started queue have before opened_there;
+            accepts = refl;
+            keeps = λ arrives known following. opening_known queue have before opened_there known following;
+            promised = λ arrives known following. record { line = tt; fresh = tt; followed = λ q reached is. cc; active = λ q reached is. cc };
+          })
+
       -- what the steps of a registration before its finish tell
       registering : (queue : QueueId) (reply : ShardReply) (before after : History) (plays : PlaysRegister moment user types asked queue reply before after)
           → WasThere final count plays.caught → Registering queue before plays.caught
@@ -338,120 +441,37 @@ module _ (final : List RealmStep) (count : ℕ) (legal_final : IsLegalRealm fina
                 omega arith;
           }
 
-      module _ (reached : ℕ) (queue : QueueId) (last : ℤ) (state : State) (parts : List FetchedSection) (caught : History)
-          (there : WasThere final count (with_step_for user (shard.Finish queue parts) (shard_reply.Finished state last reached) caught)) where
-        -- the history before the finish, and what the finish tells
-        there_caught : WasThere final count caught
-        there_caught = there_before_shard final count legal_final (serving user caught) (shard.Finish queue parts) (shard_reply.Finished state last reached) caught there
-
-        finished_at : 1 ≤ count → AnsweredAt final count (serving user caught) (shard.Finish queue parts) (shard_reply.Finished state last reached) (trace_at (serving user caught) caught.shards)
-        finished_at some = answered_at final count legal_final (serving user caught) (shard.Finish queue parts) (shard_reply.Finished state last reached) caught there (serving_inside user caught there_caught some).0
-
-        -- the finish gives its queue's clients the view
-        finished_keeps : (arrives : Bool) (known : Known) → Following final count legal_final (known_opened queue (record { types = types; asked = asked }) known) caught
-            → Following final count legal_final (known_after arrives (Register user types asked) (Finished reached queue last state) known) (with_step_for user (shard.Finish queue parts) (shard_reply.Finished state last reached) caught)
-        finished_keeps arrives known following =
-            let i = serving user caught in
-            let finish = finished_at following.some in
-            let inside = (serving_inside user caught there_caught following.some).1 in
-            let opened = known_opened queue (record { types = types; asked = asked }) known in
-            let later = known_after arrives (Register user types asked) (Finished reached queue last state) known in
-            following_shard final count legal_final i (shard.Finish queue parts) (shard_reply.Finished state last reached) caught opened later
-            (record {
-              here = λ q trace belongs inner.
-                  followed_step final q arrives trace (shard.Finish queue parts) (shard_reply.Finished state last reached) (opened.clients q) (opened.items q) (opened.registrations q) belongs.legal inner;
-              elsewhere = λ q trace not inner.
-                  let clients : Bool → Section → Option Client = λ same which.
-                  cond same (option_map (λ rows. record { rows = rows; count = count_of last }) (rows_of which (sections_of state))) (known.clients q which) in
-                  subst (λ same. IsFollowed final q (clients same) (opened.items q) (opened.registrations q) trace) (sym (other_queue i q queue finish.served inside not)) inner;
-            })
-            (λ answers within. within) there following
-
-        -- what the account of the queue says at the finish
-        opened_here : (known : Known) → queue.user ≡ user → Following final count legal_final (known_opened queue (record { types = types; asked = asked }) known) caught
-            → IsOpenedFor (record { types = types; asked = asked }) (account_over final queue (trace_at (serving user caught) caught.shards))
-        opened_here known own following =
-            let r : Registration = record { types = types; asked = asked } in
-            let here = ap (shard_of count) own ∙ sym (serving_is user caught there_caught) in
-            let at_shard = (following.followed queue).opened r (ap (λ same. cond same (Some r) (known.registrations queue)) (same_queue_itself queue)) in
-            subst (λ n. IsOpenedFor r (account_over final queue (trace_at n caught.shards))) here at_shard
-
-        -- and keeps what is promised of it
-        finished_is : (arrives : Bool) (known : Known) (before : History) → Registering queue before caught
-            → Following final count legal_final (known_opened queue (record { types = types; asked = asked }) known) caught
-            → TurnKeeps (commands final) arrives (Register user types asked) (Finished reached queue last state) (commands before.realm) known
-        finished_is arrives known before flow following =
-            let r : Registration = record { types = types; asked = asked } in
-            let i = serving user caught in
-            let trace = trace_at i caught.shards in
-            let all = commands final in
-            let earlier = commands before.realm in
-            let opened = known_opened queue r known in
-            let finish = finished_at following.some in
-            let tells = finished_tells queue.user (account_of (changed_events all) queue trace) (position_of trace) (viewed all) parts state last reached finish.answers in
-            let own = flow.own following.some in
-            let recent = flow.recent following.some in
-            let reached_is = tells.reached_is in
-            let same = ap length flow.quiet.same in
-            let made_now = position_made i reached opened caught there_caught following reached_is in
-            let made : reached ≤ length earlier = omega arith in
-            let opened_for = opened_here known own following in
-            let seen = finished_seen final count (0 + i) legal_final queue trace parts state last reached finish.belongs r opened_for in
-            let active = finished_active final count (0 + i) legal_final queue trace parts state last reached finish.belongs r opened_for in
-            let Gives : QueueId → ℕ → Type 0 = λ o m. (which : Section) → option_map_or (is_told which) (Some r) false ≡ true
-            → HasView o.user which m earlier all (option_map (λ rows. record { rows = rows; count = count_of last }) (rows_of which (sections_of state))) in
-            let IsOf : QueueId → ℕ → Type 0 = λ o m. asked ≢ [] → IsActive o.user (prefix_of m all) in
-            let gives : Gives queue reached = λ which tells.
-            let for = registered_for which (Some r) tells in
-            let it : r ≡ for.r = cc in
-            let rows_are = seen which (ap (λ (x : Registration). is_among x.asked which) it ∙ for.among) (ap (λ (x : Registration). covers x.types which) it ∙ for.covered) in
-            record { made = made; has = record { rows = section_of which (view_after queue.user reached all); count = count_of last }; is = ap (option_map (λ rows. record { rows = rows; count = count_of last })) rows_are; seen = refl } in
-            record {
-              line = record {
-                recent = record { own = own; made = made; recent = omega arith };
-                fresh = λ which among covered. subst (λ reader. IsSeen reader which reached all (rows_of which (sections_of state))) own (seen which among covered);
-              };
-              followed = λ q n is which told takes.
-                  let moved = at_same q queue n reached Gives gives (same_queue q queue) refl is in
-                  finished_gives q n which moved.0 moved.1 told;
-              active = λ q n is registration known_is some.
-                  let moved = at_same q queue n reached IsOf active (same_queue q queue) refl is in
-                  finished_of q n registration moved.0 moved.1 known_is some;
-            }
-          where
-            finished_gives : (q : QueueId) (n : ℕ) (which : Section) → same_queue q queue ≡ true
-                → ((which : Section) → option_map_or (is_told which) (Some (record { types = types; asked = asked })) false ≡ true
-                → HasView q.user which n (commands before.realm) (commands final) (option_map (λ rows. record { rows = rows; count = count_of last }) (rows_of which (sections_of state))))
-                → option_map_or (is_told which) (cond (same_queue q queue) (Some (record { types = types; asked = asked })) (known.registrations q)) false ≡ true
-                → HasView q.user which n (commands before.realm) (commands final) (cond (same_queue q queue) (option_map (λ rows. record { rows = rows; count = count_of last }) (rows_of which (sections_of state))) (known.clients q which))
-            finished_gives q n which same gives told =
-                let r : Registration = record { types = types; asked = asked } in
-                let told_now = subst (λ s. option_map_or (is_told which) (cond s (Some r) (known.registrations q)) false ≡ true) same told in
-                subst (λ s. HasView q.user which n (commands before.realm) (commands final) (cond s (option_map (λ rows. record { rows = rows; count = count_of last }) (rows_of which (sections_of state))) (known.clients q which))) (sym same)
-                (gives which told_now)
-
-            finished_of : (q : QueueId) (n : ℕ) (registration : Registration) → same_queue q queue ≡ true → (asked ≢ [] → IsActive q.user (prefix_of n (commands final)))
-                → cond (same_queue q queue) (Some (record { types = types; asked = asked })) (known.registrations q) ≡ Some registration → registration.asked ≢ []
-                → IsActive q.user (prefix_of n (commands final))
-            finished_of q n registration same active is some =
-                let r : Registration = record { types = types; asked = asked } in
-                let known_now = subst (λ s. cond s (Some r) (known.registrations q) ≡ Some registration) same is in
-                let it : r ≡ registration = cc in
-                active (λ none. some (sym (ap (λ (x : Registration). x.asked) it) ∙ none))
-
       -- a line that registers
       register_turn : (reached : ℕ) (queue : QueueId) (last : ℤ) (state : State) (before after : History)
           → PlaysRegister moment user types asked queue (shard_reply.Finished state last reached) before after → WasThere final count after
           → Turned (Register user types asked) (Finished reached queue last state) before after
       register_turn reached queue last state before after plays there =
+          let r : Registration = record { types = types; asked = asked } in
+          let parts = plays.parts in
+          let caught = plays.caught in
           let there_finished = subst (WasThere final count) plays.finishes there in
-          let flow = registering queue (shard_reply.Finished state last reached) before after plays (there_caught reached queue last state plays.parts plays.caught there_finished) in
+          let flow = registering queue (shard_reply.Finished state last reached) before after plays (there_caught reached queue last state user parts caught there_finished) in
           subst (Turned (Register user types asked) (Finished reached queue last state) before) (sym plays.finishes)
           (record {
             there = flow.quiet.there;
             accepts = sym flow.quiet.same;
-            keeps = λ arrives known following. finished_keeps reached queue last state plays.parts plays.caught there_finished arrives known (flow.opens known following);
-            promised = λ arrives known following. finished_is reached queue last state plays.parts plays.caught there_finished arrives known before flow (flow.opens known following);
+            keeps = λ arrives known following. finished_keeps reached queue last state user parts caught there_finished arrives (known_opened queue r known) (flow.opens known following);
+            promised = λ arrives known following.
+                let opened = known_opened queue r known in
+                let opens = flow.opens known following in
+                let here = reached_here reached queue last state user parts caught there_finished opened opens in
+                let reached_is = here.0 in
+                let made = here.1 in
+                let same = ap length flow.quiet.same in
+                let recent = flow.recent following.some in
+                let keeps = subst (λ (earlier : List Accepted). TurnKeeps (commands final) arrives (Finish queue) (Finished reached queue last state) earlier opened) flow.quiet.same
+                (finished_is reached queue last state user parts caught there_finished arrives opened opens) in
+                record {
+                  line = record { own = flow.own following.some; made = omega arith; recent = omega arith };
+                  fresh = keeps.fresh;
+                  followed = keeps.followed;
+                  active = keeps.active;
+                };
           })
 
       -- and one whose queue is gone by its finish
@@ -528,6 +548,7 @@ module _ (final : List RealmStep) (count : ℕ) (legal_final : IsLegalRealm fina
           answered_active final count (0 + i) legal_final queue trace user asked moment beat reply reached poll.belongs refl r (followed.opened r is) some in
           record {
             line = tt;
+            fresh = tt;
             followed = λ q n is which told takes.
                 let moved = at_same q queue n reached Gives gives (same_queue q queue) refl is in
                 subst (λ same. HasView q.user which n earlier all (cond same (option_map (may_take arrives (count_of asked) items) (known.clients q which)) (known.clients q which))) (sym moved.0)
@@ -568,65 +589,91 @@ module _ (final : List RealmStep) (count : ℕ) (legal_final : IsLegalRealm fina
               answered_active final count (0 + i) legal_final queue trace user asked moment beat reply reached poll.belongs refl r (followed.opened r is) some in
               record {
                 line = tt;
+                fresh = tt;
                 followed = λ q n is which told takes. (at_same q queue n reached Gives gives (same_queue q queue) refl is).1 which told takes;
                 active = λ q n is registration known_is some. (at_same q queue n reached IsOf active (same_queue q queue) refl is).1 registration known_is some;
               };
         }
 
     -- each line that is played
-    pub turned : (step : Step) (outcome : Outcome) (before after : History) → GoesOn moment step outcome before after → WasThere final count after
+    pub turned : (parts : QueueId → List Fetching) (step : Step) (outcome : Outcome) (before after : History) → GoesOn moment parts step outcome before after → WasThere final count after
         → Turned step outcome before after
-    turned (Command actor command) (Committed number id) before after plays there =
+    turned parts (Command actor command) (Committed number id) before after plays there =
         subst (Turned (Command actor command) (Committed number id) before) (sym plays.3)
         (committed_turn actor command number id plays.0 before (subst (WasThere final count) plays.3 there))
-    turned (Command actor command) (Refused why) before after plays there =
+    turned parts (Command actor command) (Refused why) before after plays there =
         realm_turn (Command actor command) (Refused why) (realm.Commit actor moment command) (realm_reply.Refused why) before after refl refl plays there
-    turned (Shards many) (Sharded made) before after plays there =
+    turned parts (Shards many) (Sharded made) before after plays there =
         quiet_end (Shards many) (Sharded made) before after before refl plays.1 (quiet_none final count legal_final before) there
-    turned NoticeAll (Noticed noticed) before after plays there =
+    turned parts NoticeAll (Noticed noticed) before after plays there =
         realm_turn NoticeAll (Noticed noticed) realm.NoticeAll (realm_reply.Noticed noticed) before after refl refl plays there
-    turned (Push index) (Pushed reached) before after plays there = push_turn index reached before after plays there
-    turned (PushFrom index first) (Pushed reached) before after plays there =
+    turned parts (Push index) (Pushed reached) before after plays there = push_turn index reached before after plays there
+    turned parts (PushFrom index first) (Pushed reached) before after plays there =
         quiet_end (PushFrom index first) (Pushed reached) before after _ refl plays.pushed (quiet_taken final count legal_final index first plays.notices reached before) there
-    turned (PushFrom index first) (Gap have from) before after plays there =
+    turned parts (PushFrom index first) (Gap have from) before after plays there =
         quiet_end (PushFrom index first) (Gap have from) before after _ refl plays.pushed (quiet_gap final count legal_final index first plays.notices have from before) there
-    turned (Register user types asked) (Finished reached queue last state) before after plays there = register_turn user types asked reached queue last state before after plays there
-    turned (Register user types asked) BadQueue before after plays there = lost_register_turn user types asked plays.0 before after plays.1 there
-    turned (Register user types asked) OpensSpent before after plays there =
+    turned parts (OpenQueue user types asked) (Opened queue have) before after plays there = open_turn user types asked queue have before after plays there
+    turned parts (OpenQueue user types asked) OpensSpent before after plays there =
+        serving_turn (OpenQueue user types asked) OpensSpent user (shard.Start user salt moment types asked) shard_reply.OpensSpent before after refl
+        (record { no_client = λ q which given. refl; no_items = λ q items. refl }) (λ answers within. within) plays there
+    turned parts (OpenQueue user types asked) TooManyQueues before after plays there =
+        serving_turn (OpenQueue user types asked) TooManyQueues user (shard.Start user salt moment types asked) shard_reply.TooManyQueues before after refl
+        (record { no_client = λ q which given. refl; no_items = λ q items. refl }) (λ answers within. within) plays there
+    turned parts (Fetch queue section) (Fetched which at) before after plays there =
+        realm_turn (Fetch queue section) (Fetched which at) (realm.Fetch queue.user section) (realm_reply.Section plays.1.rows at) before after refl refl plays.1.fetches there
+    turned parts (Fetch queue section) FetchRefused before after plays there =
+        realm_turn (Fetch queue section) FetchRefused (realm.Fetch queue.user section) realm_reply.FetchRefused before after refl refl plays.refused there
+    turned parts (Fetch queue section) BadQueue before after plays there =
+        quiet_end (Fetch queue section) BadQueue before after before refl plays.1 (quiet_none final count legal_final before) there
+    turned parts (Finish queue) (Finished reached other last state) before after plays there =
+        subst (λ o. Turned (Finish queue) (Finished reached o last state) before after) (sym plays.0)
+        (finish_turn queue plays.1.parts reached last state before after plays.1.finishes there)
+    turned parts (Finish queue) (MissingSection which) before after plays there =
+        serving_turn (Finish queue) (MissingSection which) queue.user (shard.Finish queue plays.parts) (shard_reply.MissingSection which plays.parts) before after refl
+        (record { no_client = λ q which given. refl; no_items = λ q items. refl }) (λ answers within. within) plays.finishes there
+    turned parts (Finish queue) (NotPushed have need) before after plays there =
+        serving_turn (Finish queue) (NotPushed have need) queue.user (shard.Finish queue plays.parts) (shard_reply.NotPushed have need plays.parts) before after refl
+        (record { no_client = λ q which given. refl; no_items = λ q items. refl }) (λ answers within. within) plays.finishes there
+    turned parts (Finish queue) BadQueue before after plays there =
+        serving_turn (Finish queue) BadQueue queue.user (shard.Finish queue plays.parts) shard_reply.BadQueue before after refl
+        (record { no_client = λ q which given. refl; no_items = λ q items. refl }) (λ answers within. within) plays.finishes there
+    turned parts (Register user types asked) (Finished reached queue last state) before after plays there = register_turn user types asked reached queue last state before after plays there
+    turned parts (Register user types asked) BadQueue before after plays there = lost_register_turn user types asked plays.0 before after plays.1 there
+    turned parts (Register user types asked) OpensSpent before after plays there =
         serving_turn (Register user types asked) OpensSpent user (shard.Start user salt moment types asked) shard_reply.OpensSpent before after refl
         (record { no_client = λ q which given. refl; no_items = λ q items. refl }) (λ answers within. within) plays there
-    turned (Register user types asked) TooManyQueues before after plays there =
+    turned parts (Register user types asked) TooManyQueues before after plays there =
         serving_turn (Register user types asked) TooManyQueues user (shard.Start user salt moment types asked) shard_reply.TooManyQueues before after refl
         (record { no_client = λ q which given. refl; no_items = λ q items. refl }) (λ answers within. within) plays there
-    turned (Register user types asked) FetchRefused before after plays there = refused_register_turn user types asked before after plays there
-    turned (Poll user queue asked beat) (Answered reached other items) before after plays there =
+    turned parts (Register user types asked) FetchRefused before after plays there = refused_register_turn user types asked before after plays there
+    turned parts (Poll user queue asked beat) (Answered reached other items) before after plays there =
         subst (λ o. Turned (Poll user queue asked beat) (Answered reached o items) before after) (sym plays.0)
         (subst (Turned (Poll user queue asked beat) (Answered reached queue items) before) (sym plays.1) (answered_turn user queue asked beat reached items before (subst (WasThere final count) plays.1 there)))
-    turned (Poll user queue asked beat) (Empty reached) before after plays there =
+    turned parts (Poll user queue asked beat) (Empty reached) before after plays there =
         subst (Turned (Poll user queue asked beat) (Empty reached) before) (sym plays) (empty_turn user queue asked beat reached before (subst (WasThere final count) plays there))
-    turned (Poll user queue asked beat) BadQueue before after plays there =
+    turned parts (Poll user queue asked beat) BadQueue before after plays there =
         serving_turn (Poll user queue asked beat) BadQueue user (shard.Poll user queue asked moment beat) shard_reply.BadQueue before after refl
         (record { no_client = λ q which given. refl; no_items = λ q items. refl }) (λ answers within. within) plays there
-    turned (Poll user queue asked beat) (NotSent greatest) before after plays there =
+    turned parts (Poll user queue asked beat) (NotSent greatest) before after plays there =
         serving_turn (Poll user queue asked beat) (NotSent greatest) user (shard.Poll user queue asked moment beat) (shard_reply.NotSent greatest) before after refl
         (record { no_client = λ q which given. refl; no_items = λ q items. refl }) (λ answers within. within) plays there
-    turned (Poll user queue asked beat) (Pruned newest) before after plays there =
+    turned parts (Poll user queue asked beat) (Pruned newest) before after plays there =
         serving_turn (Poll user queue asked beat) (Pruned newest) user (shard.Poll user queue asked moment beat) (shard_reply.Pruned newest) before after refl
         (record { no_client = λ q which given. refl; no_items = λ q items. refl }) (λ answers within. within) plays there
-    turned (DeleteQueue user queue) Deleted before after plays there =
+    turned parts (DeleteQueue user queue) Deleted before after plays there =
         serving_turn (DeleteQueue user queue) Deleted user (shard.Delete user queue) shard_reply.Deleted before after refl
         (record { no_client = λ q which given. refl; no_items = λ q items. refl }) (λ answers within. within) plays there
-    turned (DeleteQueue user queue) BadQueue before after plays there =
+    turned parts (DeleteQueue user queue) BadQueue before after plays there =
         serving_turn (DeleteQueue user queue) BadQueue user (shard.Delete user queue) shard_reply.BadQueue before after refl
         (record { no_client = λ q which given. refl; no_items = λ q items. refl }) (λ answers within. within) plays there
-    turned (Tick at) (Ticked queues) before after plays there =
+    turned parts (Tick at) (Ticked queues) before after plays there =
         quiet_end (Tick at) (Ticked queues) before after _ refl plays.ticked (quiet_ticks final count legal_final (max moment at) 0 plays.expired before) there
-    turned (Locate index) (At position) before after plays there =
+    turned parts (Locate index) (At position) before after plays there =
         quiet_end (Locate index) (At position) before after _ refl plays
         (quiet_shard final count legal_final index shard.Locate (shard_reply.At position) before
         (record { no_client = λ q which given. refl; no_items = λ q items. refl }) (λ answers within. within))
         there
-    turned (View user) (Viewed at state) before after plays there = view_turn user at state before after plays there
-    turned (View user) FetchRefused before after plays there =
+    turned parts (View user) (Viewed at state) before after plays there = view_turn user at state before after plays there
+    turned parts (View user) FetchRefused before after plays there =
         quiet_turn (View user) FetchRefused before after refl (quiet_refused_fetch user all_sections before after plays there)
-    turned step outcome before after plays there = absurd plays
+    turned parts step outcome before after plays there = absurd plays

@@ -5,7 +5,6 @@ use Rattle.std.proofs.lemmas.Bool.{and_parts, leb-true, false≢true}
 use Rattle.ev_base.specs.declared.ids.UserId.{UserId}
 use Rattle.ev_base.specs.declared.ids.QueueId.{QueueId}
 use Rattle.ev_types.specs.declared.event.Item.{Item}
-use Rattle.ev_types.specs.declared.kind.Types.{Types}
 use Rattle.ev_types.specs.declared.section.Section.{Section}
 use Rattle.ev_types.specs.declared.section.Section.TheVariants as section
 use Rattle.ev_types.specs.declared.state.State.{State}
@@ -97,15 +96,18 @@ at_same q queue n reached P holds false same_is is = cc
 
 -- what is promised of one line, with what was accepted before it and what was known of the queues
 module _ (all : List Accepted) where
-  pub record IsRegistered (user : UserId) (types : Types) (asked : List Section) (reached : ℕ) (queue : QueueId) (state : State) (earlier : List Accepted) : Type 0 where
-    pub recent : IsRecent user reached queue earlier
-    pub fresh : (which : Section) → is_among asked which ≡ true → covers types which ≡ true → IsSeen user which reached all (rows_of which (sections_of state))
-
   -- of what it prints itself
   abbrev pub LineKeeps : Step → Outcome → List Accepted → Type 0
-  LineKeeps (Register user types asked) (Finished reached queue last state) earlier = IsRegistered user types asked reached queue state earlier
+  LineKeeps (Register user types asked) (Finished reached queue last state) earlier = IsRecent user reached queue earlier
   LineKeeps (View user) (Viewed at state) earlier = IsWholeView user at state earlier
   LineKeeps step outcome earlier = Unit {0}
+
+  -- in a register reply each section of which its queue tells is the view's
+  abbrev pub IsFresh : Step → Outcome → Known → Type 0
+  IsFresh step (Finished reached queue last state) known =
+      (which : Section) → option_map_or (is_told which) (registration_after queue step (Finished reached queue last state) (known.registrations queue)) false ≡ true
+      → IsSeen queue.user which reached all (rows_of which (sections_of state))
+  IsFresh step outcome known = Unit {0}
 
   -- each client that takes what it tells has the view
   abbrev pub GivesViews : Bool → Step → Outcome → List Accepted → Known → QueueId → ℕ → Type 0
@@ -122,6 +124,7 @@ module _ (all : List Accepted) where
 
   pub record TurnKeeps (arrives : Bool) (step : Step) (outcome : Outcome) (earlier : List Accepted) (known : Known) : Type 0 where
     pub line : LineKeeps step outcome earlier
+    pub fresh : IsFresh step outcome known
     pub followed : (queue : QueueId) (reached : ℕ) → reached_by queue step outcome ≡ Some reached → GivesViews arrives step outcome earlier known queue reached
     pub active : (queue : QueueId) (reached : ℕ) → reached_by queue step outcome ≡ Some reached → IsOfActive step outcome known queue reached
 

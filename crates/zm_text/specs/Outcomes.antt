@@ -41,6 +41,10 @@ committed_text number (Some id) = and_then (codes "committed") (and_then (decima
 abbrev pub queue_word : QueueId → List ℕ
 queue_word queue = decimal queue.user.0 ++ 46 ∷ decimal queue.number
 
+-- the queue that was opened, and where
+abbrev pub opened_text : QueueId → ℕ → List ℕ
+opened_text queue position = and_then (and_then (codes "opened") (queue_word queue)) (decimal position)
+
 -- the number of the queues that were collected, and each of them
 abbrev pub ticked_text : List QueueId → List ℕ
 ticked_text queues = and_then (codes "ticked") (decimal (length queues)) ++ flat_map (λ queue. 32 ∷ queue_word queue) queues
@@ -53,7 +57,7 @@ line_of (Sharded count) = and_then (codes "shards") (decimal count)
 line_of (Noticed count) = and_then (codes "noticed") (decimal count)
 line_of (Pushed position) = and_then (codes "pushed") (decimal position)
 line_of (Gap have first) = and_then (codes "gap") (and_then (decimal have) (decimal first))
-line_of (Opened queue position) = and_then (codes "opened") (and_then (queue_word queue) (decimal position))
+line_of (Opened queue position) = opened_text queue position
 line_of (Fetched section at) = and_then (codes "fetched") (and_then (section_name section) (decimal at))
 line_of (MissingSection section) = and_then (codes "missing_section") (section_name section)
 line_of (NotPushed have need) = and_then (codes "not_pushed") (and_then (decimal have) (decimal need))

@@ -1,14 +1,15 @@
 //! What is printed for a step of a script.
 
 ghost use Rattle.std.specs.Prelude.{◌≡◌, ◌++◌, ◌∷◌, IfOk, IfSome, OnErr, OnOk};
-ghost use Rattle.zm_text.specs.Outcomes.{and_then, committed_text, line_of, queue_word, refusal_text, text_of_outcome, ticked_text, with_body};
+ghost use Rattle.zm_text.specs.Outcomes.{and_then, committed_text, line_of, opened_text, queue_word, refusal_text, text_of_outcome, ticked_text, with_body};
 
 use ev_base::{Listed, NoMemory, QueueId};
-use ev_types::{Item, State};
+use ev_types::{Item, Section, State};
 use ev_wire::{write_events, write_register, write_state};
 use std::alloc::Global;
 use std::fmt::Display;
 use zr_types::Refusal;
+use zs_words::Named;
 
 /// The salt of the queues of a script.
 pub const SALT: u64 = 0;
@@ -120,6 +121,16 @@ impl Outcome {
             Outcome::Gap { have, first } => {
                 word_line(alloc, "gap", &format_args!("{have} {first}"))
             }
+            Outcome::Opened { queue, position } => opened_line(alloc, *queue, *position),
+            Outcome::Fetched { section, at } => {
+                word_line(alloc, "fetched", &format_args!("{} {at}", section.name()))
+            }
+            Outcome::MissingSection { section } => {
+                word_line(alloc, "missing_section", &section.name())
+            }
+            Outcome::NotPushed { have, need } => {
+                word_line(alloc, "not_pushed", &format_args!("{have} {need}"))
+            }
             Outcome::Finished {
                 reached,
                 queue,
@@ -180,6 +191,16 @@ fn committed_line(alloc: Global, number: u64, id: Option<u32>) -> Result<Vec<u8>
         None => word_line(alloc, "committed", &number),
         Some(id) => word_line(alloc, "committed", &format_args!("{number} {id}")),
     }
+}
+
+fn opened_line(alloc: Global, queue: QueueId, position: u64) -> Result<Vec<u8>, NoMemory>
+    ensures { IfOk result (λ line. line.items ≡ opened_text queue position) }
+{
+    let mut line = text_line(alloc, "opened")?;
+    add_queue(alloc, queue, &mut line)?;
+    let place = format!(in alloc; " {position}")?;
+    line.extend_from_slice(place.as_bytes())?;
+    Ok(line)
 }
 
 fn ticked_line(alloc: Global, queues: &[QueueId]) -> Result<Vec<u8>, NoMemory>

@@ -1,7 +1,9 @@
 -- The same words spell one step at most, and a line that is passed over spells none.
 use Rattle.std.proofs.Common.{◌≡◌, ℕ, ◌≤◌, ◌<◌, Bool, true, false, ◌==◌, List, [], ◌∷◌, length, None, Some, Err, sym, refl, ap, ◌∙◌, subst, arith}
 use Rattle.std.specs.List.{slice_split, onto_first}
+use Rattle.ev_base.specs.declared.ids.UserId.{UserId}
 use Rattle.ev_types.specs.declared.kind.Types.{Types}
+use Rattle.ev_types.specs.declared.section.Section.{Section}
 use Rattle.zr_types.specs.declared.command.Command.{Command as Change}
 use Rattle.zr_types.specs.declared.command.SubField.TheVariants as value
 use Rattle.zr_types.specs.declared.command.Command.TheVariants.{Streams}
@@ -14,15 +16,15 @@ use Rattle.zs_words.specs.declared.names.LineName.TheVariants as line
 use Rattle.zs_words.specs.declared.names.SubProperty.{SubProperty as SubName}
 use Rattle.zs_words.specs.declared.names.SubProperty.TheVariants as sub
 use Rattle.zs_words.specs.Lists.{IsUsers, IsMessages, IsFetch}
-use Rattle.zs_words.specs.Names.{IsNameField, IsPrivacy, IsMode, IsOperation, IsFlag}
+use Rattle.zs_words.specs.Names.{IsNameField, IsPrivacy, IsMode, IsOperation, IsFlag, IsSection}
 use Rattle.zs_words.specs.Numbers.{IsUser, IsStream, IsMessage, IsShard, IsShardCount, IsNoticeNumber, IsMoment, IsRole, IsQueue, IsEventNumber}
 use Rattle.zs_words.specs.StreamRefs.{IsStreamRef}
 use Rattle.zs_words.specs.Texts.{IsText}
-use Rattle.zs_words.proofs.Meanings.{one_user, one_stream, one_message, one_shard, one_shard_count, one_notice_number, one_moment, one_role, one_queue, one_event_number, one_sub_name, one_field, one_privacy, one_mode, one_operation, one_flag, one_truth, one_text, one_stream_ref, one_users, one_messages, one_types, one_fetch, SpellsOne}
+use Rattle.zs_words.proofs.Meanings.{one_user, one_stream, one_message, one_shard, one_shard_count, one_notice_number, one_moment, one_role, one_queue, one_event_number, one_sub_name, one_field, one_privacy, one_mode, one_operation, one_flag, one_section, one_truth, one_text, one_stream_ref, one_users, one_messages, one_types, one_fetch, SpellsOne}
 use Rattle.zs_script.specs.declared.step.Setting.{Setting}
 use Rattle.zs_script.specs.declared.step.Step.{Step}
-use Rattle.zs_script.specs.declared.step.Step.TheVariants.{Command, Register}
-use Rattle.zs_script.specs.Grammar.{IsPassedOver, words_of, ValueSpells, SubPropertySpells, ArgumentsSpell, CommandSpells, RegisterSpells, PushSpells, PollSpells, RestSpells, WordsSpell, Spells}
+use Rattle.zs_script.specs.declared.step.Step.TheVariants.{Command, OpenQueue, Register}
+use Rattle.zs_script.specs.Grammar.{IsPassedOver, words_of, ValueSpells, SubPropertySpells, ArgumentsSpell, CommandSpells, AskingSpells, PushSpells, PollSpells, RestSpells, WordsSpell, Spells}
 use Rattle.zs_script.specs.Readings.{ReadsWords}
 use Rattle.zs_script.proofs.Combined.{one_word, two_words, three_words, four_words, one_whole, two_whole, three_whole, four_whole}
 
@@ -73,17 +75,17 @@ one_command name (first ∷ arguments) a b is_a is_b =
     let change = one_change name arguments is_a.1 is_b.1 is_a.3 is_b.3 in
     is_a.4 ∙ ((λ i. Command (actor i) (change i)) ∙ sym is_b.4)
 
-one_register : (words : List (List ℕ)) (a b : Step) → RegisterSpells words a → RegisterSpells words b → a ≡ b
-one_register [] a b is_a is_b = absurd is_a
-one_register (u ∷ []) a b is_a is_b = absurd is_a
-one_register (u ∷ v ∷ []) a b is_a is_b = absurd is_a
-one_register (u ∷ v ∷ w ∷ []) a b is_a is_b =
+one_asking : {W : Type 0} (make : UserId → Types → List Section → W) (words : List (List ℕ)) (a b : W) → AskingSpells make words a → AskingSpells make words b → a ≡ b
+one_asking make [] a b is_a is_b = absurd is_a
+one_asking make (u ∷ []) a b is_a is_b = absurd is_a
+one_asking make (u ∷ v ∷ []) a b is_a is_b = absurd is_a
+one_asking make (u ∷ v ∷ w ∷ []) a b is_a is_b =
     let user = one_user u is_a.0 is_b.0 is_a.3 is_b.3 in
     let meant : is_a.1 ≡ is_b.1 = one_types v is_a.1 is_b.1 is_a.4 is_b.4 in
     let P : Types → Type 0 = λ sent. IsFetch sent w is_b.2 in
     let asked = one_fetch is_a.1 w is_a.2 is_b.2 is_a.5 (subst P (sym meant) is_b.5) in
-    is_a.6 ∙ ((λ i. Register (user i) (meant i) (asked i)) ∙ sym is_b.6)
-one_register (u ∷ v ∷ w ∷ x ∷ rest) a b is_a is_b = absurd is_a
+    is_a.6 ∙ ((λ i. make (user i) (meant i) (asked i)) ∙ sym is_b.6)
+one_asking make (u ∷ v ∷ w ∷ x ∷ rest) a b is_a is_b = absurd is_a
 
 one_push : (setting : Setting) (words : List (List ℕ)) (a b : Step) → PushSpells setting words a → PushSpells setting words b → a ≡ b
 one_push setting [] a b is_a is_b = absurd is_a
@@ -98,7 +100,10 @@ one_rest setting (line.Command name) words a b is_a is_b = one_command name word
 one_rest setting line.Shards words a b is_a is_b = one_whole IsShardCount _ one_shard_count words a b is_a.1 is_b.1
 one_rest setting line.Notice words a b is_a is_b = is_a.1 ∙ sym is_b.1
 one_rest setting line.Push words a b is_a is_b = one_push setting words a b is_a is_b
-one_rest setting line.Register words a b is_a is_b = one_register words a b is_a is_b
+one_rest setting line.Open words a b is_a is_b = one_asking OpenQueue words a b is_a is_b
+one_rest setting line.Fetch words a b is_a is_b = two_whole IsQueue IsSection _ one_queue one_section words a b is_a is_b
+one_rest setting line.Finish words a b is_a is_b = one_whole IsQueue _ one_queue words a b is_a is_b
+one_rest setting line.Register words a b is_a is_b = one_asking Register words a b is_a is_b
 one_rest setting line.Poll words a b is_a is_b = one_poll false words a b is_a is_b
 one_rest setting line.Beat words a b is_a is_b = one_poll true words a b is_a is_b
 one_rest setting line.DeleteQueue words a b is_a is_b = two_whole IsUser IsQueue _ one_user one_queue words a b is_a is_b
@@ -125,12 +130,12 @@ sub_property_words (u ∷ v ∷ []) change is = absurd is
 sub_property_words (u ∷ v ∷ w ∷ []) change is = refl
 sub_property_words (u ∷ v ∷ w ∷ x ∷ rest) change is = absurd is
 
-register_words : (words : List (List ℕ)) (step : Step) → RegisterSpells words step → length words ≡ 3
-register_words [] step is = absurd is
-register_words (u ∷ []) step is = absurd is
-register_words (u ∷ v ∷ []) step is = absurd is
-register_words (u ∷ v ∷ w ∷ []) step is = refl
-register_words (u ∷ v ∷ w ∷ x ∷ rest) step is = absurd is
+asking_words : {W : Type 0} (make : UserId → Types → List Section → W) (words : List (List ℕ)) (whole : W) → AskingSpells make words whole → length words ≡ 3
+asking_words make [] whole is = absurd is
+asking_words make (u ∷ []) whole is = absurd is
+asking_words make (u ∷ v ∷ []) whole is = absurd is
+asking_words make (u ∷ v ∷ w ∷ []) whole is = refl
+asking_words make (u ∷ v ∷ w ∷ x ∷ rest) whole is = absurd is
 
 change_words : (name : CommandName) (words : List (List ℕ)) (change : Change) → ArgumentsSpell name words change → length words ≤ 4
 change_words command.RealmUpdate words change is = omega (arith, two_words IsNameField IsText _ words change is)
@@ -166,7 +171,10 @@ rest_words setting (line.Command name) (first ∷ arguments) step is = omega (ar
 rest_words setting line.Shards words step is = omega (arith, one_word IsShardCount _ words step is.1)
 rest_words setting line.Notice words step is = omega (arith, ap length is.0)
 rest_words setting line.Push words step is = omega (arith, push_words setting words step is)
-rest_words setting line.Register words step is = omega (arith, register_words words step is)
+rest_words setting line.Open words step is = omega (arith, asking_words OpenQueue words step is)
+rest_words setting line.Fetch words step is = omega (arith, two_words IsQueue IsSection _ words step is)
+rest_words setting line.Finish words step is = omega (arith, one_word IsQueue _ words step is)
+rest_words setting line.Register words step is = omega (arith, asking_words Register words step is)
 rest_words setting line.Poll words step is = omega (arith, three_words IsUser IsQueue IsEventNumber _ words step is)
 rest_words setting line.Beat words step is = omega (arith, three_words IsUser IsQueue IsEventNumber _ words step is)
 rest_words setting line.DeleteQueue words step is = omega (arith, two_words IsUser IsQueue _ words step is)

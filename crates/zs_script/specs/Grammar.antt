@@ -102,11 +102,11 @@ CommandSpells name (first ∷ arguments) step =
     × IsUser first actor × ArgumentsSpell name arguments change × (step ≡ Command actor change)
 
 -- the words after its name spell an opening or a registration: the user, the types, and what is fetched
-abbrev pub AskingSpells : (UserId → Types → List Section → Step) → List (List ℕ) → Step → Type 0
-AskingSpells make (a ∷ b ∷ c ∷ []) step =
+abbrev pub AskingSpells : {W : Type 0} → (UserId → Types → List Section → W) → List (List ℕ) → W → Type 0
+AskingSpells make (a ∷ b ∷ c ∷ []) whole =
     (user : UserId) × (types : Types) × (asked : List Section)
-    × IsUser a user × IsTypes b types × IsFetch types c asked × (step ≡ make user types asked)
-AskingSpells make words step = ⊥
+    × IsUser a user × IsTypes b types × IsFetch types c asked × (whole ≡ make user types asked)
+AskingSpells make words whole = ⊥
 
 -- the word after its name spells a number of shards; only the first step may
 abbrev pub ShardsSpells : Setting → List (List ℕ) → Step → Type 0
@@ -154,5 +154,6 @@ IsNoStep setting line = (IsPassedOver line → ⊥) × ((step : Step) → Spells
 -- a step for which memory is taken
 abbrev pub TakesMemory : Step → Type 0
 TakesMemory (Command actor change) = Unit {0}
+TakesMemory (OpenQueue user types asked) = Unit {0}
 TakesMemory (Register user types asked) = Unit {0}
 TakesMemory step = ⊥

@@ -1,7 +1,11 @@
 -- What is answered for the words of a line.
 use Rattle.std.specs.Prelude.{◌≡◌, ℕ, List, Result, Err, IfOk}
+use Rattle.ev_base.specs.declared.ids.UserId.{UserId}
+use Rattle.ev_types.specs.declared.kind.Types.{Types}
+use Rattle.ev_types.specs.declared.section.Section.{Section}
 use Rattle.zs_words.specs.declared.fault.LineFault.{LineFault}
 use Rattle.zs_words.specs.declared.fault.LineFault.TheVariants.{NotAStep, NoMemory}
+use Rattle.zs_script.specs.declared.queues.Asked.{Asked}
 use Rattle.zs_script.specs.declared.step.Setting.{Setting}
 use Rattle.zs_script.specs.declared.step.Step.{Step}
 use Rattle.zs_script.specs.Grammar.{WordsSpell, TakesMemory}
@@ -15,3 +19,7 @@ pub record ReadsStep (spells : Step → Type 0) (answer : Result Step LineFault)
 -- what is answered for the words of a line
 abbrev pub ReadsWords : Setting → List (List ℕ) → Result Step LineFault → Type 0
 ReadsWords setting words answer = ReadsStep (WordsSpell setting words) answer
+
+-- the user, the types and the sections that a line asks for
+abbrev pub asked_for : UserId → Types → List Section → Asked
+asked_for user types asked = record { user = user; types = types; sections = asked }

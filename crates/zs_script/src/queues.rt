@@ -5,17 +5,19 @@ ghost use Rattle.ev_types.specs.declared.kind.Types.{Types};
 ghost use Rattle.ev_types.specs.declared.section.Section.{Section};
 ghost use Rattle.zs_words.specs.Lists.{IsFetch, IsTypes};
 ghost use Rattle.zs_words.specs.Numbers.{IsMoment, IsNoticeNumber, IsQueue, IsShard, IsUser};
-ghost use Rattle.zs_words.specs.Readings.{pointed};
-ghost use Rattle.zs_script.specs.declared.step.Step.TheVariants.{DeleteQueue, Locate, NoticeAll, Push, PushFrom, Register, Tick, View};
-ghost use Rattle.zs_script.specs.Grammar.{One, PollSpells, PushSpells, RegisterSpells, ShardsSpells, Two};
-ghost use Rattle.zs_script.specs.Readings.{ReadsStep};
+ghost use Rattle.zs_words.specs.Names.{IsSection};
+ghost use Rattle.zs_words.specs.Readings.{Reads, pointed};
+ghost use Rattle.zs_script.specs.declared.step.Step.TheVariants.{DeleteQueue, Fetch, Finish, Locate, NoticeAll, OpenQueue, Push, PushFrom, Register, Tick, View};
+ghost use Rattle.zs_script.specs.Grammar.{AskingSpells, One, PollSpells, PushSpells, ShardsSpells, Two};
+ghost use Rattle.zs_script.specs.Readings.{ReadsStep, asked_for};
 
 use crate::step::{Setting, Step};
-use ev_base::UserId;
+use ev_base::{Listed, UserId};
+use ev_types::{Section, Types};
 use std::alloc::{AllocError, Global};
 use zs_words::{
-    LineFault, fetch_of, is_fetch, is_types, read_event_number, read_moment, read_notice_number,
-    read_queue, read_shard, read_shard_count, read_user, types_of,
+    LineFault, fetch_of, is_fetch, is_types, read_event_number, read_moment, read_name,
+    read_notice_number, read_queue, read_shard, read_shard_count, read_user, types_of,
 };
 
 pub(crate) fn read_shards(setting: Setting, words: &[&[u8]]) -> Result<Step, LineFault>
@@ -77,8 +79,38 @@ fn read_push_from(shards: u32, words: &[&[u8]]) -> Result<Step, LineFault>
     Ok(Step::PushFrom { shard, first })
 }
 
+/// Whose queue is asked for, with which types and sections.
+#[derive(Drop)]
+pub(crate) struct Asked {
+    pub(crate) user: UserId,
+    pub(crate) types: Types,
+    pub(crate) sections: Listed<Section>,
+}
+
+pub(crate) fn read_open(alloc: Global, words: &[&[u8]]) -> Result<Step, LineFault>
+    ensures { ReadsStep (AskingSpells OpenQueue (pointed words.now)) result }
+{
+    let asked = read_asked(alloc, words)?;
+    Ok(Step::OpenQueue {
+        user: asked.user,
+        types: asked.types,
+        asked: asked.sections,
+    })
+}
+
 pub(crate) fn read_register(alloc: Global, words: &[&[u8]]) -> Result<Step, LineFault>
-    ensures { ReadsStep (RegisterSpells (pointed words.now)) result }
+    ensures { ReadsStep (AskingSpells Register (pointed words.now)) result }
+{
+    let asked = read_asked(alloc, words)?;
+    Ok(Step::Register {
+        user: asked.user,
+        types: asked.types,
+        asked: asked.sections,
+    })
+}
+
+fn read_asked(alloc: Global, words: &[&[u8]]) -> Result<Asked, LineFault>
+    ensures { Reads (AskingSpells asked_for (pointed words.now)) result }
 {
     let [user, types, fetch] = *words else {
         return Err(LineFault::NotAStep);
@@ -92,26 +124,48 @@ pub(crate) fn read_register(alloc: Global, words: &[&[u8]]) -> Result<Step, Line
     if !is_fetch(fetch) {
         return Err(LineFault::NotAStep);
     }
-    Ok(register_step(alloc, user, types, fetch)?)
+    Ok(asked_of(alloc, user, types, fetch)?)
 }
 
-/// The registration of this user, with words for types and for what is fetched.
-fn register_step(
-    alloc: Global,
-    user: UserId,
-    types: &[u8],
-    fetch: &[u8],
-) -> Result<Step, AllocError>
+/// What this user asks for, with words for types and for what is fetched.
+fn asked_of(alloc: Global, user: UserId, types: &[u8], fetch: &[u8]) -> Result<Asked, AllocError>
     requires is_types { (sent : Types) × IsTypes types.now sent }
     requires is_fetch { (asked : List Section) × IsFetch Types.All fetch.now asked }
-    ensures { IfOk result (λ step. (sent : Types) × (asked : List Section) ×
-        IsTypes types.now sent × IsFetch sent fetch.now asked × (step ≡ Register user sent asked)) }
+    ensures { IfOk result (λ whole. (sent : Types) × (asked : List Section) ×
+        IsTypes types.now sent × IsFetch sent fetch.now asked × (whole ≡ asked_for user sent asked)) }
 {
-    Ok(Step::Register {
+    Ok(Asked {
         user,
         types: types_of(alloc, types)?,
-        asked: fetch_of(alloc, types, fetch)?,
+        sections: fetch_of(alloc, types, fetch)?,
     })
+}
+
+pub(crate) fn read_fetch(words: &[&[u8]]) -> Result<Step, LineFault>
+    ensures { ReadsStep (Two IsQueue IsSection Fetch (pointed words.now)) result }
+{
+    let [queue, section] = *words else {
+        return Err(LineFault::NotAStep);
+    };
+    let Some(queue) = read_queue(queue) else {
+        return Err(LineFault::NotAStep);
+    };
+    let Some(section) = read_name(section) else {
+        return Err(LineFault::NotAStep);
+    };
+    Ok(Step::Fetch { queue, section })
+}
+
+pub(crate) fn read_finish(words: &[&[u8]]) -> Result<Step, LineFault>
+    ensures { ReadsStep (One IsQueue Finish (pointed words.now)) result }
+{
+    let [queue] = *words else {
+        return Err(LineFault::NotAStep);
+    };
+    let Some(queue) = read_queue(queue) else {
+        return Err(LineFault::NotAStep);
+    };
+    Ok(Step::Finish { queue })
 }
 
 /// A poll, with a heartbeat or without.

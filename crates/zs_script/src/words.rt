@@ -12,8 +12,8 @@ use crate::people::{
 };
 use crate::posts::{read_delete, read_edit_content, read_move, read_send_dm, read_send_stream};
 use crate::queues::{
-    read_delete_queue, read_notice, read_poll, read_push, read_register, read_shards, read_tick,
-    read_view, read_where,
+    read_delete_queue, read_fetch, read_finish, read_notice, read_open, read_poll, read_push,
+    read_register, read_shards, read_tick, read_view, read_where,
 };
 use crate::step::{Setting, Step};
 use crate::streams::{
@@ -74,6 +74,9 @@ fn read_rest(
         LineName::Shards => read_shards(setting, words),
         LineName::Notice => read_notice(words),
         LineName::Push => read_push(setting, words),
+        LineName::Open => read_open(alloc, words),
+        LineName::Fetch => read_fetch(words),
+        LineName::Finish => read_finish(words),
         LineName::Register => read_register(alloc, words),
         LineName::Poll => read_poll(false, words),
         LineName::Beat => read_poll(true, words),

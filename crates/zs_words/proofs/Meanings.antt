@@ -12,7 +12,7 @@ use Rattle.ev_types.specs.declared.kind.Types.TheVariants as types
 use Rattle.ev_types.specs.Feeders.{kind_name}
 use Rattle.zr_types.specs.declared.command.StreamRef.TheVariants as ref
 use Rattle.zs_words.specs.Lists.{parts_of, IsIds, IsMessages, IsUsers, IsTypes, IsFetch, is_fetch_name}
-use Rattle.zs_words.specs.Names.{kinds, IsSubProperty, IsNameField, IsPrivacy, IsMode, IsOperation, IsFlag, IsTruth}
+use Rattle.zs_words.specs.Names.{kinds, IsSubProperty, IsNameField, IsPrivacy, IsMode, IsOperation, IsFlag, IsSection, IsTruth}
 use Rattle.zs_words.specs.Numbers.{is_digit, IsNumber, IsInteger, IsId, IsUser, IsStream, IsMessage, IsShard, IsShardCount, IsNoticeNumber, IsMoment, IsRole, IsQueue, IsEventNumber}
 use Rattle.zs_words.specs.StreamRefs.{IsStreamRef}
 use Rattle.zs_words.specs.Texts.{IsText, decoded}
@@ -139,6 +139,9 @@ one_operation word a b is_a is_b = let same : Some a ≡ Some b = sym is_a ∙ i
 
 pub one_flag : SpellsOne IsFlag
 one_flag word a b is_a is_b = let same : Some a ≡ Some b = sym is_a ∙ is_b in cc
+
+pub one_section : SpellsOne IsSection
+one_section word a b is_a is_b = let same : Some a ≡ Some b = sym is_a ∙ is_b in cc
 
 pub one_truth : SpellsOne IsTruth
 one_truth word a b is_a is_b = let same : Some a ≡ Some b = sym is_a ∙ is_b in cc

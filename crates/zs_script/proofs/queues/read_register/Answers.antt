@@ -1,43 +1,13 @@
-use Rattle.std.proofs.Common.{◌≡◌, true, false, Err, sym, ◌∙◌, rules, tests}
-use Rattle.std.proofs.lemmas.Bool.{false≢true}
-use Rattle.ev_types.specs.declared.kind.Types.TheVariants as types
-use Rattle.zs_words.specs.declared.fault.LineFault.TheVariants.{NoMemory}
-use Rattle.zs_script.proofs.StepAnswers.{no_register, register_made, register_out_of_memory}
+use Rattle.std.proofs.Common.{◌≡◌, Err, rules}
+use Rattle.zs_words.specs.Readings.{pointed}
+use Rattle.zs_script.specs.declared.step.Step.TheVariants.{Register}
+use Rattle.zs_script.proofs.StepAnswers.{asking_step, no_asking_step}
 use Rattle.zs_script.proofs.queues.read_register.Goals as goal
 
-pub returns-in_default-read_user : goal.returns-in_default-read_user
-returns-in_default-read_user c =
-    no_register c.args.words.now c.in-len3.len_at_least c.in-len3.len_below (λ user sent asked is typed fetched. c.in_default-read_user.ensures user is)
-
-pub returns-then-not-is_types : goal.returns-then-not-is_types
-returns-then-not-is_types c =
-    let no : c.is_types.result ≡ false = search (rules, tests) in
-    no_register c.args.words.now c.in-len3.len_at_least c.in-len3.len_below
-    (λ user sent asked is typed fetched. false≢true (sym no ∙ c.is_types.ensures.1 (sent, typed)))
-
-pub returns-then-not-is_fetch : goal.returns-then-not-is_fetch
-returns-then-not-is_fetch c =
-    let no : c.is_fetch.result ≡ false = search (rules, tests) in
-    no_register c.args.words.now c.in-len3.len_at_least c.in-len3.len_below
-    (λ user sent asked is typed fetched. false≢true (sym no ∙ (c.is_fetch.ensures sent).1 (asked, fetched)))
-
-pub register_step-requires-clause-is_types : goal.register_step-requires-clause-is_types
-register_step-requires-clause-is_types c =
-    let yes : c.is_types.result ≡ true = search (rules, tests) in
-    c.is_types.ensures.0 yes
-
-pub register_step-requires-clause-is_fetch : goal.register_step-requires-clause-is_fetch
-register_step-requires-clause-is_fetch c =
-    let yes : c.is_fetch.result ≡ true = search (rules, tests) in
-    (c.is_fetch.ensures types.All).0 yes
-
-pub returns-in_err-register_step : goal.returns-in_err-register_step
-returns-in_err-register_step c =
-    let failed : c.from_residual.result ≡ Err NoMemory = search rules in
-    let typed : c.is_types.result ≡ true = search (rules, tests) in
-    let fetched : c.is_fetch.result ≡ true = search (rules, tests) in
-    rw failed (register_out_of_memory c.args.words.now c.in-Some.user c.in-len3.len_at_least c.in-len3.len_below c.in-Some.ensures (c.is_types.ensures.0 typed) (λ sent. (c.is_fetch.ensures sent).0 fetched))
+pub returns-in_err-asked : goal.returns-in_err-asked
+returns-in_err-asked c =
+    let failed : c.from_residual.result ≡ Err c.in_err-asked.field-0.0 = search rules in
+    rw failed (no_asking_step Register (λ user types asked. tt) (pointed c.args.words.now) _ c.in_err-asked.ensures)
 
 pub returns : goal.returns
-returns c =
-    register_made c.args.words.now c.in-Some.user c.in_ok-register_step.field-0 c.in-len3.len_at_least c.in-len3.len_below c.in-Some.ensures c.in_ok-register_step.ensures
+returns c = asking_step Register (λ user types asked. tt) (pointed c.args.words.now) _ c.in_ok-asked.ensures
