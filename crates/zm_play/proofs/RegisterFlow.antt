@@ -31,9 +31,9 @@ use Rattle.zw_laws.proofs.FedSteps.{fed_steps_stay_fed, length-with_step_at}
 use Rattle.zs_script.specs.declared.step.Step.TheVariants.{Register}
 use Rattle.zm_text.specs.declared.outcome.Outcome.{Outcome}
 use Rattle.zm_text.specs.declared.outcome.Outcome.TheVariants.{FetchRefused, Finished, BadQueue}
-use Rattle.zm_text.specs.Playing.{CatchesUp, Plays, PlaysRegister, PlaysRefusedFetch, Round, TakesAndPushes, salt, sections, serving, with_fetches, with_opening}
+use Rattle.zm_text.specs.Playing.{CatchesUp, PlaysRegister, PlaysRefusedFetch, Round, TakesAndPushes, salt, sections, serving, with_fetches, with_opening}
 use Rattle.zm_text.proofs.Fetches.{fetched_parts, fetches_commands, fetches_shards, needed_within, none_missing, were_fetched}
-use Rattle.zm_play.specs.Flows.{Any, Asks, Completes, Continues, Extends, FetchesAll, Finishes, IsAt, IsReady, MayCatchUp, MayComplete, MayDelete, MayFinish, OrStops, Registers, WasOpened, queue_in, trace_of}
+use Rattle.zm_play.specs.Flows.{Any, Asks, Completes, Continues, Extends, FetchesAll, Finishes, IsAt, IsReady, MayCatchUp, MayComplete, MayDelete, MayFinish, OrStops, Registers, WasOpened, queue_in, trace_of, PlaysAlone}
 use Rattle.zm_play.specs.Flows.Extends.{rests, asks_shard}
 use Rattle.zm_play.proofs.FetchFlow.{fetches_extend}
 use Rattle.zm_play.proofs.PushRounds.{catches_go_on, goes_on_from}
@@ -397,7 +397,7 @@ module _ (old mid : WorldState) (moment : ℕ) (user : UserId) (types : Types) (
 
   -- where it was filled, the registration is played
   pub register_goes : (new : WorldState) (result : Result Outcome NoMemory) → Continues mid new (WasOpened user asked queue have) (OrStops result (Registers user asked queue have))
-      → Continues old new Any (OrStops result (Plays moment (Register user types asked)))
+      → Continues old new Any (OrStops result (PlaysAlone moment (Register user types asked)))
   register_goes new (Ok outcome) goes = goes_twice opens goes (λ before between at now. (moment, types, before, now.holds)) (λ before between after at now last. last.holds moment types before now.holds)
   register_goes new (Err none) stops = goes_twice opens stops (λ before between at now. (moment, types, before, now.holds)) (λ before between after at now last.
       goes_on_from (subst (λ h. Extends before h) (sym now.holds) (asks_shard (serving user before) (Start user salt moment types asked) (Opened queue have) rests)) last.holds)
