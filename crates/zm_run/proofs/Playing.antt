@@ -40,7 +40,7 @@ plays_line old mid new line lines written step is_line spells plays player first
     let left : setting_in mid ≡ record { shards = shards_after step (length old.player.world.shards); is_first = false } =
     λ i. record { shards = plays.shards i; is_first = plays.is_first i } in
     let represents = represents_after old.player mid.player (setting_in old) (setting_in mid) line lines text step plays.outcome spells
-    plays.played plays.moment left played.represents in
+    plays.played left played.represents in
     let same : text ++ added ≡ written ++ new.output.items =
     append_assoc written old.output.items added ∙ ap (λ t. written ++ t) (sym plays.output ∙ sym output) in
     let told : Represents mid.player (setting_in mid) (line ∷ lines) (written ++ new.output.items) =

@@ -1,17 +1,16 @@
 -- The text of a script grows line by line.
 use Rattle.std.proofs.Common.{◌≡◌, ℕ, true, false, List, [], ◌∷◌, ◌++◌, length, refl, ap, sym, subst, ◌∙◌, inl, inr}
 use Rattle.zw_traces.specs.Histories.{History, opening_history}
-use Rattle.zw_world.specs.Worlds.{WorldRepresents}
 use Rattle.zw_laws.proofs.FedSteps.{openings_are_fed}
 use Rattle.zs_script.specs.declared.step.Setting.{Setting}
 use Rattle.zs_script.specs.declared.step.Step.{Step}
 use Rattle.zs_script.specs.Grammar.{IsPassedOver, Spells}
-use Rattle.zs_script.specs.Scripts.{moment_after, setting_of, shards_after}
+use Rattle.zs_script.specs.Scripts.{setting_of, shards_after}
 use Rattle.zm_text.specs.declared.outcome.Outcome.{Outcome}
 use Rattle.zm_text.specs.Outcomes.{text_of_outcome}
-use Rattle.zm_text.specs.Playing.{Plays, Turn, IsPlayed, steps_in}
+use Rattle.zm_text.specs.Playing.{Turn, IsPlayed, steps_in}
 use Rattle.zm_text.specs.Texts.{HasText}
-use Rattle.zm_play.specs.Played.{PlayerState, Played}
+use Rattle.zm_play.specs.Played.{Follows, Played, PlayerState}
 use Rattle.zm_run.specs.declared.runner.Runner.{Runner}
 use Rattle.zm_run.specs.Running.{Represents, setting_in}
 use Rattle.zm_run.proofs.Sound.{scripts_are_sound}
@@ -22,11 +21,10 @@ told_nothing =
     let keeps = scripts_are_sound [] [] (opening_history 1) (refl, refl) (openings_are_fed 1) in
     record { turns = []; history = opening_history 1; played = (refl, refl); legal = keeps.0; printed = refl; promises = keeps.1 }
 
-pub represents_at_first : (player : PlayerState) (setting : Setting) → WorldRepresents player.world (opening_history 1)
-    → player.moment ≡ 0 → setting ≡ record { shards = 1; is_first = true } → Represents player setting [] []
+pub represents_at_first : (player : PlayerState) (setting : Setting) → Follows player [] (opening_history 1)
+    → setting ≡ record { shards = 1; is_first = true } → Represents player setting [] []
 unfolding told_nothing
-represents_at_first player setting world moment left =
-    record { told = told_nothing; fed = openings_are_fed 1; world = world; moment = moment; left = left }
+represents_at_first player setting follows left = record { told = told_nothing; follows = follows; left = left }
 
 passed_over : (line : List ℕ) (lines : List (List ℕ)) (turns : List Turn) (history : History) → IsPassedOver line
     → IsPlayed lines turns history → IsPlayed (line ∷ lines) turns history
@@ -58,25 +56,23 @@ represents_past player setting line lines text passes represents =
         printed = told.printed;
         promises = told.promises;
       };
-      fed = represents.fed;
-      world = represents.world;
-      moment = represents.moment;
+      follows = represents.follows;
       left = represents.left;
     }
 
 -- a line that spells a step prints what comes of it
 pub represents_after : (old new : PlayerState) (before after : Setting) (line : List ℕ) (lines : List (List ℕ)) (text : List ℕ) (step : Step) (outcome : Outcome)
     → Spells before line step → Played old new step outcome
-    → new.moment ≡ moment_after step old.moment → after ≡ record { shards = shards_after step before.shards; is_first = false }
+    → after ≡ record { shards = shards_after step before.shards; is_first = false }
     → Represents old before lines text → Represents new after (line ∷ lines) (text ++ text_of_outcome outcome)
-represents_after old new before after line lines text step outcome spells plays moment left represents =
+represents_after old new before after line lines text step outcome spells plays left represents =
     let told = represents.told in
-    let goes = plays told.history represents.world represents.fed in
+    let goes = plays told.turns told.history represents.follows in
     let turn : Turn = record { step = step; outcome = outcome } in
     let spelled : Spells (setting_of (steps_in told.turns)) line step = subst (λ s. Spells s line step) represents.left spells in
     let played : IsPlayed (line ∷ lines) (turn ∷ told.turns) goes.0 =
-    inr (spelled, (told.history, subst (λ m. Plays m step outcome told.history goes.0) represents.moment goes.3, told.played)) in
-    let keeps = scripts_are_sound (line ∷ lines) (turn ∷ told.turns) goes.0 played goes.2 in
+    inr (spelled, (told.history, goes.2, told.played)) in
+    let keeps = scripts_are_sound (line ∷ lines) (turn ∷ told.turns) goes.0 played goes.1.fed in
     record {
       told = record {
         turns = turn ∷ told.turns;
@@ -86,9 +82,7 @@ represents_after old new before after line lines text step outcome spells plays 
         printed = ap (λ front. front ++ text_of_outcome outcome) told.printed;
         promises = keeps.1;
       };
-      fed = goes.2;
-      world = goes.1;
-      moment = moment ∙ ap (moment_after step) represents.moment;
+      follows = goes.1;
       left = left ∙ ap (λ (s : Setting). record { shards = shards_after step s.shards; is_first = false }) represents.left;
     }
 

@@ -4,17 +4,16 @@ use Rattle.ev_ports.specs.Ports.{Loses, Gains, IsSpent}
 use Rattle.ev_ports.specs.declared.reading.Took.{Took}
 use Rattle.ev_ports.specs.declared.reading.Took.TheVariants.{Bytes, End, Failed}
 use Rattle.zw_traces.specs.Histories.{History, IsLegalHistory, IsFedHistory}
-use Rattle.zw_world.specs.Worlds.{WorldRepresents}
 use Rattle.zs_script.specs.declared.step.Setting.{Setting}
 use Rattle.zs_script.specs.declared.step.Step.{Step}
 use Rattle.zs_script.specs.Grammar.{IsNoStep}
-use Rattle.zs_script.specs.Scripts.{moment_after, moment_of, setting_of, shards_after}
+use Rattle.zs_script.specs.Scripts.{setting_of, shards_after}
 use Rattle.zm_text.specs.declared.outcome.Outcome.{Outcome}
 use Rattle.zm_text.specs.Outcomes.{text_of_outcome}
 use Rattle.zm_text.specs.Playing.{Turn, IsPlayed, steps_in}
 use Rattle.zm_text.specs.Promises.{Promises}
 use Rattle.zm_text.specs.Texts.{HasText}
-use Rattle.zm_play.specs.Played.{PlayerState, Played}
+use Rattle.zm_play.specs.Played.{Follows, Played, PlayerState}
 use Rattle.zm_run.specs.declared.input.Input.{Input}
 use Rattle.zm_run.specs.declared.runner.Runner.{Runner}
 use Rattle.zm_run.specs.declared.runner.Stop.{Stop}
@@ -61,17 +60,14 @@ setting_in runner = record { shards = length runner.player.world.shards; is_firs
 pub record PlaysStep (step : Step) (old new : Runner) : Type 0 where
   pub outcome : Outcome
   pub played : Played old.player new.player step outcome
-  pub moment : new.player.moment ≡ moment_after step old.player.moment
   pub shards : length new.player.world.shards ≡ shards_after step (length old.player.world.shards)
   pub is_first : new.is_first ≡ false
   pub output : new.output.items ≡ old.output.items ++ text_of_outcome outcome
 
--- a player represents lines, the latest first, and their text, and this is left to the next line
+-- a player stands after lines, the latest first, which have this text, and this is left to the next line
 pub record Represents (player : PlayerState) (setting : Setting) (lines : List (List ℕ)) (text : List ℕ) : Type 0 where
   pub told : HasText lines text
-  pub fed : IsFedHistory told.history
-  pub world : WorldRepresents player.world told.history
-  pub moment : player.moment ≡ moment_of (steps_in told.turns)
+  pub follows : Follows player told.turns told.history
   pub left : setting ≡ setting_of (steps_in told.turns)
 
 -- a runner played these lines, the latest first, and this is written of their text: its output is the rest

@@ -10,5 +10,5 @@ returns c =
     let none = c.new-2.ensures.items in
     let setting : Setting = record { shards = length player.world.shards; is_first = true } in
     let left : setting ≡ record { shards = 1; is_first = true } = λ i. record { shards = c.in_ok-new.ensures.shards i; is_first = true } in
-    let represents = represents_at_first player setting c.in_ok-new.ensures.world c.in_ok-new.ensures.moment left in
+    let represents = represents_at_first player setting c.in_ok-new.ensures.follows left in
     (record { represents = subst (λ t. Represents player setting [] t) (sym none) represents; counted = refl; good = tt }, none)

@@ -7,7 +7,6 @@ returns-clause-played c = on_ok_weaker c.write.result
     (λ output. let plays = c.in_ok-outcome.ensures in record {
       outcome = c.in_ok-outcome.outcome;
       played = plays.played;
-      moment = plays.moment;
       shards = plays.shards;
       is_first = refl;
       output = output;
