@@ -17,7 +17,7 @@ use crate::told::{Told, received_by};
 use ev_base::{Listed, NoMemory, UserId};
 use ev_types::{Event, Section, State, Types};
 use q_queue::{Pushed, Queue};
-use rg_parts::{finished_state, first_missing, needed};
+use rg_flow::{finished_state, first_missing, needed};
 use std::alloc::Global;
 use std::marker::Model;
 use zw_traces::{FetchedSection, ShardReply};

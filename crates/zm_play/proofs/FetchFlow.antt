@@ -17,7 +17,7 @@ use Rattle.zm_text.specs.Playing.{AreShown, PlaysRefusedFetch, PlaysView, sectio
 use Rattle.zm_text.proofs.Fetches.{AllParts, fetched_parts, fetches_commands, fetches_more, part_in, parts_are}
 use Rattle.zm_play.specs.Flows.{Any, Continues, Extends, FetchesAll, FetchesOne}
 use Rattle.zm_play.specs.Flows.Extends.{rests, asks_realm}
-use Rattle.rg_parts.specs.Placed.{no_sections}
+use Rattle.rg_flow.specs.Placed.{no_sections}
 use Rattle.zm_play.specs.States.{with_part}
 use Rattle.zm_play.proofs.PushRounds.{goes_on_from}
 use Rattle.zm_play.proofs.Steps.{goes_twice}

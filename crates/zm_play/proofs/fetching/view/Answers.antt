@@ -1,6 +1,6 @@
 use Rattle.std.proofs.Common.{List, fold, ap, ◌∙◌}
 use Rattle.zw_traces.specs.declared.shard.FetchedSection.{FetchedSection}
-use Rattle.rg_parts.specs.Placed.{no_sections}
+use Rattle.rg_flow.specs.Placed.{no_sections}
 use Rattle.zm_play.specs.States.{with_part}
 use Rattle.zm_play.proofs.FetchFlow.{view_goes}
 use Rattle.zm_play.proofs.fetching.view.Goals as goal

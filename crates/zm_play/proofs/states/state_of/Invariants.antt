@@ -1,6 +1,6 @@
 use Rattle.std.proofs.Common.{◌≡◌, fold}
 use Rattle.ev_types.specs.Sections.{sections_of}
-use Rattle.rg_parts.specs.Placed.{no_sections}
+use Rattle.rg_flow.specs.Placed.{no_sections}
 use Rattle.zm_play.specs.States.{with_part}
 use Rattle.zm_play.proofs.states.state_of.Given as goal
 

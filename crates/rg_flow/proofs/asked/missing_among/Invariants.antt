@@ -1,6 +1,6 @@
 use Rattle.std.proofs.Common.{◌≡◌, drop}
 use Rattle.zw_traces.specs.FetchedSections as of_parts
-use Rattle.rg_parts.proofs.asked.missing_among.Given as goal
+use Rattle.rg_flow.proofs.asked.missing_among.Given as goal
 
 -- no section so far is missing
 abbrev pub invariant-loop-which : goal.invariant-loop-which

@@ -3,9 +3,9 @@ use Rattle.ev_types.specs.declared.section.Section.{Section}
 use Rattle.ev_types.specs.OneSection.{rows_of, same_section}
 use Rattle.ev_types.proofs.SectionLemmas.{same_section_is}
 use Rattle.ev_types.specs.Sections.{sections_of}
-use Rattle.rg_parts.specs.Placed.{own_section}
-use Rattle.rg_parts.proofs.Parts.{is_put, not_put}
-use Rattle.rg_parts.proofs.finished.place.Goals as goal
+use Rattle.rg_flow.specs.Placed.{own_section}
+use Rattle.rg_flow.proofs.Parts.{is_put, not_put}
+use Rattle.rg_flow.proofs.finished.place.Goals as goal
 
 pub returns-then-not-is_asked : goal.returns-then-not-is_asked
 returns-then-not-is_asked c = λ which.

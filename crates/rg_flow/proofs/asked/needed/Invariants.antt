@@ -1,6 +1,6 @@
 use Rattle.std.proofs.Common.{◌≡◌, max, drop}
 use Rattle.zw_traces.specs.FetchedSections as of_parts
-use Rattle.rg_parts.proofs.asked.needed.Given as goal
+use Rattle.rg_flow.proofs.asked.needed.Given as goal
 
 -- the latest so far, with what is left
 abbrev pub invariant-loop-which : goal.invariant-loop-which

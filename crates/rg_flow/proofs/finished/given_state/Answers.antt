@@ -1,6 +1,6 @@
 use Rattle.ev_types.specs.Sections.{sections_of}
-use Rattle.rg_parts.proofs.States.{goes_on}
-use Rattle.rg_parts.proofs.finished.given_state.Goals as goal
+use Rattle.rg_flow.proofs.States.{goes_on}
+use Rattle.rg_flow.proofs.finished.given_state.Goals as goal
 
 pub loop-part-preserved : goal.loop-part-preserved
 loop-part-preserved c =

@@ -4,7 +4,7 @@ ghost use Rattle.std.specs.Prelude.{◌≡◌, if◌then◌else◌};
 ghost use Rattle.ev_types.specs.OneSection.{rows_of, same_section};
 ghost use Rattle.ev_types.specs.Sections.{sections_of};
 ghost use Rattle.ev_types.specs.declared.section.Section.{Section};
-ghost use Rattle.rg_parts.specs.Placed.{no_sections, own_section, with_rows};
+ghost use Rattle.rg_flow.specs.Placed.{no_sections, own_section, with_rows};
 
 use ev_types::{Rows, Section, State};
 

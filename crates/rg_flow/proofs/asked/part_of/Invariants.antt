@@ -1,6 +1,6 @@
 use Rattle.std.proofs.Common.{◌≡◌, drop}
 use Rattle.zw_traces.specs.FetchedSections as of_parts
-use Rattle.rg_parts.proofs.asked.part_of.Given as goal
+use Rattle.rg_flow.proofs.asked.part_of.Given as goal
 
 -- no part so far is of the section
 abbrev pub invariant-loop-part : goal.invariant-loop-part

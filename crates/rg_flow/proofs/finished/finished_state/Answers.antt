@@ -1,7 +1,7 @@
 use Rattle.std.proofs.Common.{◌∙◌, ap}
 use Rattle.ev_types.specs.Sections.{sections_of}
-use Rattle.rg_parts.proofs.States.{finished_rows, given}
-use Rattle.rg_parts.proofs.finished.finished_state.Goals as goal
+use Rattle.rg_flow.proofs.States.{finished_rows, given}
+use Rattle.rg_flow.proofs.finished.finished_state.Goals as goal
 
 pub returns : goal.returns
 returns c =

@@ -1,0 +1,4 @@
+pub mod FlowValue
+pub mod Flows
+pub mod Laws
+pub mod Placed
