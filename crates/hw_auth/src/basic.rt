@@ -8,8 +8,8 @@ use base64::DecodeAllocError;
 use base64::engine::general_purpose::STANDARD;
 use std::alloc::Global;
 
-/// The credentials that an `Authorization` header spells. `Basic` may be written in any case of letters.
-/// The email ends at the first colon, and the key may have more of them.
+/// The credentials that an `Authorization` header spells. `Basic` may be written in any case of
+/// letters. The email ends at the first colon, and the key may have more of them.
 pub fn credentials(alloc: Global, header: Option<&[u8]>) -> Result<Credentials, AuthFault>
     ensures { Answers (option_map (λ header. header.now) header.entry) result }
 {
