@@ -25,8 +25,8 @@ pub enum Need {
     Finish,
 }
 
-/// The sections that a registration asks for and those that it has, each once. Besides, its shard is to
-/// be pushed as far as its user has seen.
+/// The sections that a registration asks for and those that it has, each once. Besides, its shard is
+/// to be pushed as far as its user has seen.
 #[derive(Drop)]
 pub struct Flow {
     asked: Vec<Section>,
@@ -98,8 +98,8 @@ fn need_with(missing: Option<Section>, least: u64, position: u64) -> Need
     }
 }
 
-/// Puts a section that was fetched, in place of what the parts had of it. Memory is refused only where
-/// they had nothing of it, and are as many as they have room for.
+/// Puts a section that was fetched, in place of what the parts had of it. Memory is refused only
+/// where they had nothing of it, and are as many as they have room for.
 pub fn put_part(parts: &mut Vec<FetchedSection>, part: FetchedSection) -> Result<(), NoMemory>
     ensures parts { parts.new.items
         ≡ (if is_ok result then with_part part parts.old.items else parts.old.items) }

@@ -7,8 +7,8 @@ pub fn put_parts_are_found()
     ensures { PutPartsAreFound }
 {}
 
-/// A flow that needs nothing more lacks no section, and its shard is pushed as far as each section was
-/// fetched and as its user has seen.
+/// A flow that needs nothing more lacks no section, and its shard is pushed as far as each section
+/// was fetched and as its user has seen.
 pub fn finished_flows_lack_nothing()
     ensures { FinishedFlowsLackNothing }
 {}

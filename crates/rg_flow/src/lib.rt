@@ -1,5 +1,5 @@
-//! A registration: what it needs next, and the sections that it was given, made into the state that its
-//! finish answers.
+//! A registration: what it needs next, and the sections that it was given, made into the state that
+//! its finish answers.
 #![tactic(auto)]
 
 mod asked;

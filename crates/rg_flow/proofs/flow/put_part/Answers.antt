@@ -4,7 +4,8 @@ use Rattle.rg_flow.proofs.FlowLemmas.{found_place, no_place}
 use Rattle.rg_flow.proofs.flow.put_part.Goals as goal
 
 pub returns-in-Some-clause-parts : goal.returns-in-Some-clause-parts
-returns-in-Some-clause-parts c = found_place c.args.part c.args.parts.now.items c.in-Some.at (search rules)
+returns-in-Some-clause-parts c =
+    found_place c.args.part c.args.parts.now.items c.in-Some.at (search rules)
 
 pub returns-in_ok-push-in-None-clause-parts : goal.returns-in_ok-push-in-None-clause-parts
 returns-in_ok-push-in-None-clause-parts c =

@@ -7,7 +7,8 @@ use Rattle.rg_flow.proofs.flow.Flow.put.Goals as goal
 pub unreachable-requires : goal.unreachable-requires
 unreachable-requires c =
     let parts = c.self.inside.parts in
-    let refused : (part_of c.args.part.section parts.items ≡ None) × (vec_capacity parts ≤ vec_len parts) = search rules in
+    let refused : (part_of c.args.part.section parts.items ≡ None)
+    × (vec_capacity parts ≤ vec_len parts) = search rules in
     let room = room_left c.args.part parts.items c.self.invariant.1 refused.0 in
     omega (arith, room, refused.1, c.self.invariant.0, parts.ok.0)
 
@@ -15,4 +16,5 @@ pub invariant_of-self : goal.invariant_of-self
 invariant_of-self c =
     let parts = c.self.inside.parts in
     let is : c.put_part.new.parts.items ≡ with_part c.args.part parts.items = search rules in
-    (omega (arith, c.self.invariant.0, c.put_part.ensures.capacity), rw is (stay_apart c.args.part parts.items c.self.invariant.1))
+    let apart = stay_apart c.args.part parts.items c.self.invariant.1 in
+    (omega (arith, c.self.invariant.0, c.put_part.ensures.capacity), rw is apart)
