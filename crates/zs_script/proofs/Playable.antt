@@ -5,6 +5,7 @@ use Rattle.ev_types.specs.declared.kind.Types.{Types}
 use Rattle.ev_types.specs.declared.section.Section.{Section}
 use Rattle.zs_words.specs.declared.names.LineName.{LineName}
 use Rattle.zs_words.specs.declared.names.LineName.TheVariants as line
+use Rattle.zs_words.specs.Lists.{IsFetch}
 use Rattle.zs_words.specs.Names.{IsSection}
 use Rattle.zs_words.specs.Numbers.{IsUser, IsShard, IsShardCount, IsNoticeNumber, IsMoment, IsQueue, IsEventNumber}
 use Rattle.zs_script.specs.declared.step.Setting.{Setting}
@@ -13,6 +14,7 @@ use Rattle.zs_script.specs.declared.step.Step.TheVariants.{OpenQueue, Register, 
 use Rattle.zs_script.specs.Grammar.{AskingSpells, PollSpells, PushSpells, RestSpells, Spells, WordsSpell, words_of}
 use Rattle.zs_script.specs.Scripts.{MayPlay}
 use Rattle.zs_script.proofs.Combined.{one_made, two_made, three_made}
+use Rattle.zs_script.proofs.FetchOrder.{fetched_in_order}
 
 -- no step stands before one that says how many shards there are
 abbrev ComesInOrder : Setting → Step → Type 0
@@ -30,11 +32,11 @@ push_plays setting (a ∷ []) step is =
 push_plays setting (a ∷ b ∷ rest) step is =
     two_made (IsShard setting.shards) IsNoticeNumber _ (MayFollow setting) (λ word other shard first written also. ((written.1, also.1), tt)) (a ∷ b ∷ rest) step is
 
-asking_plays : (setting : Setting) (make : UserId → Types → List Section → Step) → ((user : UserId) (types : Types) (asked : List Section) → MayFollow setting (make user types asked)) → (words : List (List ℕ)) (step : Step) → AskingSpells make words step → MayFollow setting step
+asking_plays : (setting : Setting) (make : UserId → Types → List Section → Step) → ((user : UserId) (types : Types) (word : List ℕ) (asked : List Section) → IsFetch types word asked → MayFollow setting (make user types asked)) → (words : List (List ℕ)) (step : Step) → AskingSpells make words step → MayFollow setting step
 asking_plays setting make each [] step is = absurd is
 asking_plays setting make each (a ∷ []) step is = absurd is
 asking_plays setting make each (a ∷ b ∷ []) step is = absurd is
-asking_plays setting make each (a ∷ b ∷ c ∷ []) step is = subst (MayFollow setting) (sym is.6) (each is.0 is.1 is.2)
+asking_plays setting make each (a ∷ b ∷ c ∷ []) step is = subst (MayFollow setting) (sym is.6) (each is.0 is.1 c is.2 is.5)
 asking_plays setting make each (a ∷ b ∷ c ∷ d ∷ rest) step is = absurd is
 
 poll_plays : (setting : Setting) (beat : Bool) (words : List (List ℕ)) (step : Step) → PollSpells beat words step → MayFollow setting step
@@ -47,11 +49,11 @@ rest_plays setting line.Shards words step is =
     one_made IsShardCount _ (MayFollow setting) (λ word count written. ((written.1, written.2), is.0)) words step is.1
 rest_plays setting line.Notice words step is = subst (MayFollow setting) (sym is.1) (tt, tt)
 rest_plays setting line.Push words step is = push_plays setting words step is
-rest_plays setting line.Open words step is = asking_plays setting OpenQueue (λ user types asked. (tt, tt)) words step is
+rest_plays setting line.Open words step is = asking_plays setting OpenQueue (λ user types word asked fetched. (tt, tt)) words step is
 rest_plays setting line.Fetch words step is =
     two_made IsQueue IsSection _ (MayFollow setting) (λ word other queue section is_queue is_section. (tt, tt)) words step is
 rest_plays setting line.Finish words step is = one_made IsQueue _ (MayFollow setting) (λ word queue is_queue. (tt, tt)) words step is
-rest_plays setting line.Register words step is = asking_plays setting Register (λ user types asked. (tt, tt)) words step is
+rest_plays setting line.Register words step is = asking_plays setting Register (λ user types word asked fetched. (fetched_in_order types word asked fetched, tt)) words step is
 rest_plays setting line.Poll words step is = poll_plays setting _ words step is
 rest_plays setting line.Beat words step is = poll_plays setting _ words step is
 rest_plays setting line.DeleteQueue words step is =

@@ -1,8 +1,12 @@
 -- The steps of a script, and what those before a line leave to it.
 use Rattle.std.specs.Prelude.{◌≡◌, ℕ, ◌<◌, ◌≤◌, Bool, true, false, max, List, [], ◌∷◌, ◌⊎◌}
+use Rattle.std.specs.List.{filter, list_any}
+use Rattle.ev_types.specs.declared.section.Section.{Section}
+use Rattle.ev_types.specs.OneSection.{same_section}
 use Rattle.zs_script.specs.declared.step.Setting.{Setting}
 use Rattle.zs_script.specs.declared.step.Step.{Step}
-use Rattle.zs_script.specs.declared.step.Step.TheVariants.{Shards, Push, PushFrom, Locate, Tick}
+use Rattle.zs_script.specs.declared.step.Step.TheVariants.{Shards, Push, PushFrom, Register, Locate, Tick}
+use Rattle.zs_words.specs.Names.{all_sections}
 use Rattle.zs_words.specs.Numbers.{max_shards}
 use Rattle.zs_script.specs.Grammar.{IsPassedOver, Spells}
 
@@ -40,11 +44,16 @@ AreSpelled (line ∷ lines) (step ∷ before) =
     (IsPassedOver line × AreSpelled lines (step ∷ before))
     ⊎ (Spells (setting_of before) line step × AreSpelled lines before)
 
+-- each of these sections once, in the order of the sections
+unfoldable pub AreInOrder : List Section → Type 0
+AreInOrder asked = asked ≡ filter (λ section. list_any (same_section section) asked) all_sections
+
 -- where there are these many shards, the step names one that is there, and makes no other number of them than there may be;
--- notices count from 1
+-- notices count from 1, and a registration asks for each section once, in the order of the sections
 abbrev pub MayPlay : ℕ → Step → Type 0
 MayPlay shards (Shards count) = (1 ≤ count) × (count ≤ max_shards)
 MayPlay shards (Push shard) = shard < shards
 MayPlay shards (PushFrom shard first) = (shard < shards) × (1 ≤ first)
+MayPlay shards (Register user types asked) = AreInOrder asked
 MayPlay shards (Locate shard) = shard < shards
 MayPlay shards step = Unit {0}

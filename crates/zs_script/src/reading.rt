@@ -57,8 +57,8 @@ pub fn one_step_at_most()
         → Spells setting line a → Spells setting line b → a ≡ b }
 {}
 
-/// What a line spells names a shard that is there, at least one and at most 16 shards, and notices
-/// from 1 on.
+/// What a line spells names a shard that is there, at least one and at most 16 shards, notices from 1
+/// on, and for a registration each section once, in the order of the sections.
 pub fn steps_may_be_played()
     ensures { (setting : Setting) (line : List ℕ) (step : Step)
         → Spells setting line step → MayPlay setting.shards step }
