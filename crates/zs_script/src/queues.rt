@@ -132,7 +132,8 @@ fn asked_of(alloc: Global, user: UserId, types: &[u8], fetch: &[u8]) -> Result<A
     requires is_types { (sent : Types) × IsTypes types.now sent }
     requires is_fetch { (asked : List Section) × IsFetch Types.All fetch.now asked }
     ensures { IfOk result (λ whole. (sent : Types) × (asked : List Section) ×
-        IsTypes types.now sent × IsFetch sent fetch.now asked × (whole ≡ asked_for user sent asked)) }
+        IsTypes types.now sent × IsFetch sent fetch.now asked
+        × (whole ≡ asked_for user sent asked)) }
 {
     Ok(Asked {
         user,
