@@ -1,7 +1,4 @@
-use Rattle.zm_play.proofs.player.play_at.Goals as goal
-
-pub returns-in-Shards-clause-continues : goal.returns-in-Shards-clause-continues
-returns-in-Shards-clause-continues c = rw c.in-Shards.is (c.begin_over.ensures.continues c.args.moment)
+use Rattle.zm_play.proofs.playing.play_alone.Goals as goal
 
 pub returns-in-Push-clause-continues : goal.returns-in-Push-clause-continues
 returns-in-Push-clause-continues c = rw c.in-Push.is (c.push.ensures.continues c.args.moment)
