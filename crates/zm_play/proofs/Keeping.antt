@@ -1,5 +1,5 @@
 -- What is kept of the sections that lines fetched, as queues are changed, ended and grow.
-use Rattle.std.proofs.Common.{◌≡◌, ℕ, Bool, true, false, cond, not, Option, None, Some, List, [], ◌∷◌, map, ◌⊎◌, inl, inr, refl, ap, sym, subst, ◌∙◌, true≢false}
+use Rattle.std.proofs.Common.{◌≡◌, ℕ, Bool, true, false, cond, Option, None, Some, List, [], ◌∷◌, map, ◌⊎◌, inl, inr, refl, ap, sym, subst, ◌∙◌, true≢false}
 use Rattle.std.proofs.lemmas.Bool.{false≢true}
 use Rattle.std.specs.Option.{unwrap_or}
 use Rattle.ev_base.specs.declared.ids.UserId.{UserId}
@@ -71,10 +71,6 @@ pub value_in : (same : Bool) (parts : List FetchedSection) (found : Option (List
     → unwrap_or (cond same (Some parts) found) [] ≡ cond same parts (unwrap_or found [])
 value_in true parts found = refl
 value_in false parts found = refl
-
-pub untrue : (test : Bool) → not test ≡ true → test ≡ false
-untrue false is = refl
-untrue true is = absurd (false≢true is)
 
 pub forgets_none : (history : History) (kept : Kept) → Forgets history kept kept
 forgets_none history kept queue = inl refl

@@ -9,5 +9,5 @@ returns-clause-played c = rw (← c.self.view_is, c.next_moment-self-inside.ensu
     (steps_played c.self.inside.world c.play_step.new.world c.self.inside.fetched c.play_step.new.fetched c.self.inside.moment c.args.step c.play_step.result c.play_step.ensures.steps)
 
 pub returns-clause-stopped : goal.returns-clause-stopped
-returns-clause-stopped c = rw (← c.self.view_is, c.next_moment-self-inside.ensures)
+returns-clause-stopped c = rw (← c.self.view_is)
     (steps_stopped c.self.inside.world c.play_step.new.world c.self.inside.fetched c.play_step.new.fetched c.self.inside.moment c.args.step c.play_step.result c.play_step.ensures.steps)
