@@ -9,6 +9,9 @@ loop-queue-preserved c = λ history represents.
     elim c.if-not-is_opening.branch [
       | then-not-is_opening w ↦
           rw w.fetched-is (forgets_twice history _ _ _ (c.loop-queue.invariant history represents)
-          (forgets_one _ false history _ _ (is_opening_there _ history _ c.is_opening.result represents (c.is_opening.ensures history represents) ∙ w.if-not-is_opening.true) w.forget.ensures))
+          (forgets_one _ false history _ _
+          (is_opening_there _ history _ c.is_opening.result represents
+          (c.is_opening.ensures history represents) ∙ w.if-not-is_opening.true)
+          w.forget.ensures))
       | else-not-is_opening w ↦ rw w.fetched-is (c.loop-queue.invariant history represents)
     ]

@@ -9,6 +9,7 @@ use Rattle.zm_play.proofs.fetched.FetchedParts.keep.Goals as goal
 pub returns-clause-kept : goal.returns-clause-kept
 returns-clause-kept c = λ other.
     let same = same_queue c.args.queue other in
-    ap (λ (found : Option (List FetchedSection)). unwrap_or found []) (c.in_ok-insert.ensures.updates.0 other)
+    ap (λ (found : Option (List FetchedSection)). unwrap_or found [])
+    (c.in_ok-insert.ensures.updates.0 other)
     ∙ value_in same c.args.parts _
     ∙ ap (λ (kept : Kept). cond same c.args.parts (parts_for other kept)) c.self.view_is
