@@ -191,7 +191,7 @@ rounds_end old now index need have reached enough first before at =
     (there.0, record { represents = last.represents; fed = last.fed; holds = last.holds.rounds reached [] there.0 (enough, refl, refl) })
 
 -- takes and pushes are more steps
-pushes_go_on : (index need have : ℕ) (rounds : List Round) (before : History) (reached : ℕ) (after : History)
+pub pushes_go_on : (index need have : ℕ) (rounds : List Round) (before : History) (reached : ℕ) (after : History)
     → TakesAndPushes index need have rounds before reached after → Extends before after
 pushes_go_on index need have [] before reached after pushed = subst (λ history. Extends before history) (sym pushed.2) rests
 pushes_go_on index need have (round ∷ rounds) before reached after pushed =

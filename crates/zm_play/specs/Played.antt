@@ -1,5 +1,5 @@
 -- What playing a step does to the histories that a player stands for.
-use Rattle.std.specs.Prelude.{◌≡◌, ℕ, Bool, true, false, List, [], ◌∷◌, map, Result, Ok, Err}
+use Rattle.std.specs.Prelude.{◌≡◌, ℕ, Bool, true, false, List, ◌∷◌, map, Result, Ok, Err}
 use Rattle.ev_base.specs.declared.ids.QueueId.{QueueId}
 use Rattle.ev_rows.specs.declared.memory.NoMemory.{NoMemory}
 use Rattle.zw_traces.specs.declared.shard.FetchedSection.{FetchedSection}

@@ -28,7 +28,11 @@ impl Model for Player {
 
     ghost Value = { PlayerState };
 
-    ghost view = { λ player. record { world = player.world; moment = player.moment; fetched = player.fetched } };
+    ghost view = { λ player. record {
+      world = player.world;
+      moment = player.moment;
+      fetched = player.fetched;
+    } };
 
     ghost invariant = { λ player. IsStanding player.world player.fetched };
 }

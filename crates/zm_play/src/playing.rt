@@ -100,7 +100,8 @@ fn play_alone(
     requires alone { is_alone step ≡ true }
     requires may { MayPlay (length world.old.shards) step }
     requires ready { IsReady world.old Any }
-    ensures continues { Continues world.old world.new Any (OrStops result (PlaysAlone moment step)) }
+    ensures continues { Continues world.old world.new Any
+        (OrStops result (PlaysAlone moment step)) }
     ensures shards { length world.new.shards ≡ length world.old.shards }
 {
     match step {

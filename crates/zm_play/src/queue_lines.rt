@@ -1,5 +1,5 @@
-//! The lines that register a queue piece by piece: it is opened, sections are fetched for it, and it
-//! is finished with them.
+//! The lines that register a queue piece by piece: it is opened, sections are fetched for it, and
+//! it is finished with them.
 
 ghost use Rattle.std.specs.Prelude.{◌≡◌, ℕ, length};
 ghost use Rattle.zs_script.specs.declared.step.Step.{Step};
@@ -75,8 +75,8 @@ pub fn fetch_part(
     }
 }
 
-/// Finishes a queue in registration with the sections that were fetched for it. Where one is missing,
-/// or a shard was not brought what they need, they are kept.
+/// Finishes a queue in registration with the sections that were fetched for it. Where one is
+/// missing, or the shard wasn't brought what they need, they are kept.
 pub fn finish_queue(
     world: &mut World,
     fetched: &mut FetchedParts,
