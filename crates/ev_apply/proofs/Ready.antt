@@ -1,5 +1,5 @@
 -- The room that a state has for events, from the room that its sections have for their writes.
-use Rattle.std.proofs.Common.{◌≡◌, ◌∙◌, List, Option, option_map, Result, Ok, Err, OnOk, flat_map, ap, subst}
+use Rattle.std.proofs.Common.{◌≡◌, ◌∙◌, ℕ, List, Option, None, Some, option_map, arith, sym, Result, Ok, Err, OnOk, flat_map, ap, subst}
 use Rattle.ev_rows.specs.Rows.{Table}
 use Rattle.ev_types.specs.declared.event.Event.{Event}
 use Rattle.ev_types.specs.declared.state.State.{State}
@@ -7,25 +7,43 @@ use Rattle.ev_types.specs.Sections.{rows_in, sections_of}
 use Rattle.ev_types.specs.Writes.{Write, Rules, after_writes}
 use Rattle.ev_types.specs.Applying.{applied_where_present, realm_applied, rows_applied}
 use Rattle.ev_types.specs.EventWrites.{user_rules, user_writes, stream_rules, stream_writes, subscription_rules, subscription_writes, subscriber_rules, subscriber_writes, message_rules, message_writes, reaction_rules, reaction_writes, starred_rules, starred_writes, unread_rules, unread_writes}
-use Rattle.ev_apply.specs.Room.{HasRoom}
+use Rattle.ev_apply.specs.declared.sorted_writes.SortedWrites.{SortedWrites}
+use Rattle.ev_apply.specs.Kinds.{in_order}
+use Rattle.ev_apply.specs.Lasts.{CanApply, DoesWrites}
+use Rattle.ev_apply.specs.Room.{HasRoom, put_count}
 
 -- a fact of an answer, from another
 pub on_ok : {T E : Type 0} {P Q : Type 0} (answer : Result T E) → (P → Q) → OnOk answer P → OnOk answer Q
 on_ok (Ok value) f holds = f holds
 on_ok (Err error) f holds = holds
 
-module _ {K V F P : Type 0} (made : Event → List (Write K V F P)) (section : Option (Table K V)) where
+module _ {K V F P : Type 0} (rules : Rules K V F P) (made : Event → List (Write K V F P)) where
   -- the room for writes that are those of the events
-  pub room_of : (read own : List (Write K V F P)) (inside events : List Event) → read ≡ own → own ≡ flat_map made inside → inside ≡ events
-      → HasRoom read section → HasRoom (flat_map made events) section
-  room_of read own inside events is made_of seen room = subst (λ (writes : List (Write K V F P)). HasRoom writes section) (is ∙ made_of ∙ ap (flat_map made) seen) room
+  pub room_of : (sorted : SortedWrites K V F P) (inside events : List Event) (section : Option (Table K V)) → DoesWrites rules sorted (flat_map made inside) → inside ≡ events
+      → HasRoom sorted.puts section → HasRoom (put_count (flat_map made events)) section
+  room_of sorted inside events section does seen room =
+      subst (λ (puts : ℕ). HasRoom puts section) (does.puts ∙ ap (λ l. put_count (flat_map made l)) seen) room
 
-module _ {K V F P : Type 0} (rules : Rules K V F P) (made : Event → List (Write K V F P)) (old new : Option (Table K V)) where
+  -- the writes by key can be done where there is room for all writes
+  pub can_apply : (sorted : SortedWrites K V F P) (inside events : List Event) (section : Option (Table K V)) → DoesWrites rules sorted (flat_map made inside) → inside ≡ events
+      → HasRoom (put_count (flat_map made events)) section → CanApply rules.cmp sorted section
+  can_apply sorted inside events section does seen room = record {
+    order = does.order;
+    rise = does.rise;
+    room = fewer section (subst (λ (puts : ℕ). HasRoom puts section) (sym (ap (λ l. put_count (flat_map made l)) seen)) room);
+  }
+    where
+      fewer : (s : Option (Table K V)) → HasRoom (put_count (flat_map made inside)) s → HasRoom (put_count (in_order {P = P} sorted.lasting.writes.items)) s
+      fewer None room = room
+      fewer (Some table) room = omega (arith, room, does.lasts.room)
+
   -- a section after writes that are those of the events
-  pub part_applied : (own : List (Write K V F P)) (inside events : List Event) → own ≡ flat_map made inside → inside ≡ events
-      → rows_in new ≡ option_map (λ rows. after_writes rules rows own) (rows_in old) → rows_in new ≡ option_map (rows_applied rules made events) (rows_in old)
-  part_applied own inside events made_of seen done =
-      done ∙ ap (λ (writes : List (Write K V F P)). option_map (λ rows. after_writes rules rows writes) (rows_in old)) (made_of ∙ ap (flat_map made) seen)
+  pub part_applied : (old new : Option (Table K V)) (sorted : SortedWrites K V F P) (inside events : List Event)
+      → DoesWrites rules sorted (flat_map made inside) → inside ≡ events
+      → ((all : List (Write K V F P)) → DoesWrites rules sorted all → rows_in new ≡ option_map (λ rows. after_writes rules rows all) (rows_in old))
+      → rows_in new ≡ option_map (rows_applied rules made events) (rows_in old)
+  part_applied old new sorted inside events does seen done =
+      done (flat_map made inside) does ∙ ap (λ l. option_map (λ rows. after_writes rules rows (flat_map made l)) (rows_in old)) seen
 
 -- all sections, from each of them
 module _ (events : List Event) (old new : State) (realm : new.realm ≡ option_map (realm_applied events) old.realm)

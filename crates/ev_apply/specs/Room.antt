@@ -17,17 +17,17 @@ is_put (drop_under prefix) = false
 abbrev pub put_count : {K V F P : Type 0} → List (Write K V F P) → ℕ
 put_count writes = length (filter is_put writes)
 
--- a section has room for the rows that these writes put, if it is present
-abbrev pub HasRoom : {K V F P : Type 0} → List (Write K V F P) → Option (Table K V) → Type 0
-HasRoom writes section = MatchOption section ⊤ (λ table. put_count writes ≤ table.spare)
+-- a section has room for this many more rows, if it is present
+abbrev pub HasRoom : {K V : Type 0} → ℕ → Option (Table K V) → Type 0
+HasRoom puts section = MatchOption section ⊤ (λ table. puts ≤ table.spare)
 
 -- every section that is present has room for the rows that these events put
 pub record HasRoomFor (events : List Event) (state : State) : Type 0 where
-  pub realm_users : HasRoom (flat_map user_writes events) state.realm_users
-  pub streams : HasRoom (flat_map stream_writes events) state.streams
-  pub subscriptions : HasRoom (flat_map subscription_writes events) state.subscriptions
-  pub subscribers : HasRoom (flat_map subscriber_writes events) state.subscribers
-  pub messages : HasRoom (flat_map message_writes events) state.messages
-  pub reactions : HasRoom (flat_map reaction_writes events) state.reactions
-  pub starred_messages : HasRoom (flat_map starred_writes events) state.starred_messages
-  pub unread_messages : HasRoom (flat_map unread_writes events) state.unread_messages
+  pub realm_users : HasRoom (put_count (flat_map user_writes events)) state.realm_users
+  pub streams : HasRoom (put_count (flat_map stream_writes events)) state.streams
+  pub subscriptions : HasRoom (put_count (flat_map subscription_writes events)) state.subscriptions
+  pub subscribers : HasRoom (put_count (flat_map subscriber_writes events)) state.subscribers
+  pub messages : HasRoom (put_count (flat_map message_writes events)) state.messages
+  pub reactions : HasRoom (put_count (flat_map reaction_writes events)) state.reactions
+  pub starred_messages : HasRoom (put_count (flat_map starred_writes events)) state.starred_messages
+  pub unread_messages : HasRoom (put_count (flat_map unread_writes events)) state.unread_messages

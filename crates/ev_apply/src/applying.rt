@@ -7,9 +7,14 @@ ghost use Rattle.ev_types.specs.EventWrites.{realm_after};
 ghost use Rattle.ev_apply.specs.Room.{HasRoomFor};
 
 use crate::event_writes::writes_of;
-use crate::message_writes::{MessageWrite, ReactionWrite, StarredWrite, UnreadWrite};
-use crate::people_writes::{StreamWrite, SubscriberWrite, SubscriptionWrite, UserWrite};
+use crate::message_writes::{
+    SortedMessageWrites, SortedReactionWrites, SortedStarredWrites, SortedUnreadWrites,
+};
+use crate::people_writes::{
+    SortedStreamWrites, SortedSubscriberWrites, SortedSubscriptionWrites, SortedUserWrites,
+};
 use crate::section_writes::{apply_in, reserve_in};
+use crate::sorted_writes::SortedWrites;
 use ev_base::NoMemory;
 use ev_types::{Event, RealmField, ShownRealm, State};
 use std::alloc::Global;
@@ -18,19 +23,19 @@ use std::marker::Model;
 // What events write in the sections of users, streams, subscriptions and subscribers.
 #[derive(Drop)]
 pub struct PeopleWrites {
-    users: Vec<UserWrite>,
-    streams: Vec<StreamWrite>,
-    subscriptions: Vec<SubscriptionWrite>,
-    subscribers: Vec<SubscriberWrite>,
+    users: SortedUserWrites,
+    streams: SortedStreamWrites,
+    subscriptions: SortedSubscriptionWrites,
+    subscribers: SortedSubscriberWrites,
 }
 
 // What events write in the sections of messages, reactions, starred and unread messages.
 #[derive(Drop)]
 pub struct MessageWrites {
-    messages: Vec<MessageWrite>,
-    reactions: Vec<ReactionWrite>,
-    starred: Vec<StarredWrite>,
-    unread: Vec<UnreadWrite>,
+    messages: SortedMessageWrites,
+    reactions: SortedReactionWrites,
+    starred: SortedStarredWrites,
+    unread: SortedUnreadWrites,
 }
 
 /// Events that are ready to be applied without further memory.
@@ -60,10 +65,10 @@ impl PeopleWrites {
         ensures { IfOk result (λ writes. ArePeopleWrites writes events.now) }
     {
         Ok(PeopleWrites {
-            users: writes_of(alloc, events)?,
-            streams: writes_of(alloc, events)?,
-            subscriptions: writes_of(alloc, events)?,
-            subscribers: writes_of(alloc, events)?,
+            users: SortedWrites::of(alloc, writes_of(alloc, events)?)?,
+            streams: SortedWrites::of(alloc, writes_of(alloc, events)?)?,
+            subscriptions: SortedWrites::of(alloc, writes_of(alloc, events)?)?,
+            subscribers: SortedWrites::of(alloc, writes_of(alloc, events)?)?,
         })
     }
 }
@@ -75,10 +80,10 @@ impl MessageWrites {
         ensures { IfOk result (λ writes. AreMessageWrites writes events.now) }
     {
         Ok(MessageWrites {
-            messages: writes_of(alloc, events)?,
-            reactions: writes_of(alloc, events)?,
-            starred: writes_of(alloc, events)?,
-            unread: writes_of(alloc, events)?,
+            messages: SortedWrites::of(alloc, writes_of(alloc, events)?)?,
+            reactions: SortedWrites::of(alloc, writes_of(alloc, events)?)?,
+            starred: SortedWrites::of(alloc, writes_of(alloc, events)?)?,
+            unread: SortedWrites::of(alloc, writes_of(alloc, events)?)?,
         })
     }
 }
@@ -102,14 +107,14 @@ impl Prepared {
         ensures room { OnOk result (HasRoomFor self.now state.new) }
         ensures sections { sections_of state.new ≡ sections_of state.old }
     {
-        reserve_in(&mut state.realm_users, &self.people.users)?;
-        reserve_in(&mut state.streams, &self.people.streams)?;
-        reserve_in(&mut state.subscriptions, &self.people.subscriptions)?;
-        reserve_in(&mut state.subscribers, &self.people.subscribers)?;
-        reserve_in(&mut state.messages, &self.messages.messages)?;
-        reserve_in(&mut state.reactions, &self.messages.reactions)?;
-        reserve_in(&mut state.starred_messages, &self.messages.starred)?;
-        reserve_in(&mut state.unread_messages, &self.messages.unread)
+        reserve_in(&mut state.realm_users, self.people.users.puts)?;
+        reserve_in(&mut state.streams, self.people.streams.puts)?;
+        reserve_in(&mut state.subscriptions, self.people.subscriptions.puts)?;
+        reserve_in(&mut state.subscribers, self.people.subscribers.puts)?;
+        reserve_in(&mut state.messages, self.messages.messages.puts)?;
+        reserve_in(&mut state.reactions, self.messages.reactions.puts)?;
+        reserve_in(&mut state.starred_messages, self.messages.starred.puts)?;
+        reserve_in(&mut state.unread_messages, self.messages.unread.puts)
     }
 }
 

@@ -10,6 +10,7 @@ use ev_types::{
     MessageFlags, ShownMessage, ShownStream, ShownSubscription, ShownUser, StreamField,
     SubscriptionField, UserField,
 };
+use std::collections::BTreeSet;
 
 impl Field<ShownUser> for UserField {
     ghost use Rattle.ev_types.specs.EventWrites.{user_with};
@@ -95,31 +96,41 @@ impl Field<()> for NoField {
 }
 
 impl<K> Prefix<K> for NoField {
-    ghost use Rattle.std.specs.Prelude.{false};
+    ghost use Rattle.std.specs.Prelude.{false, refl};
 
     ghost is_under = { λ prefix key. false };
 
-    fn is_prefix_of(&self, _key: &K) -> bool {
+    ghost alike = { λ a b same key. refl };
+
+    fn cover(_prefixes: &BTreeSet<NoField>, _key: &K) -> bool {
         false
     }
 }
 
 impl Prefix<(StreamId, UserId)> for StreamId {
+    ghost use Rattle.std.proofs.Common.{ap};
+    ghost use Rattle.std.proofs.lemmas.Map.Lookups.{exact_unsigned};
     ghost use Rattle.std.specs.Prelude.{◌==◌};
 
     ghost is_under = { λ stream key. key.0.0 == stream.0 };
 
-    fn is_prefix_of(&self, key: &(StreamId, UserId)) -> bool {
-        key.0 == *self
+    ghost alike = { λ a b same key. ap (λ number. key.0.0 == number) (exact_unsigned a.0 b.0 same) };
+
+    fn cover(prefixes: &BTreeSet<StreamId>, key: &(StreamId, UserId)) -> bool {
+        prefixes.contains(&key.0)
     }
 }
 
 impl Prefix<(MessageId, UserId, Text)> for MessageId {
+    ghost use Rattle.std.proofs.Common.{ap};
+    ghost use Rattle.std.proofs.lemmas.Map.Lookups.{exact_unsigned};
     ghost use Rattle.std.specs.Prelude.{◌==◌};
 
     ghost is_under = { λ message key. key.0.0 == message.0 };
 
-    fn is_prefix_of(&self, key: &(MessageId, UserId, Text)) -> bool {
-        key.0 == *self
+    ghost alike = { λ a b same key. ap (λ number. key.0.0 == number) (exact_unsigned a.0 b.0 same) };
+
+    fn cover(prefixes: &BTreeSet<MessageId>, key: &(MessageId, UserId, Text)) -> bool {
+        prefixes.contains(&key.0)
     }
 }

@@ -10,10 +10,13 @@ use crate::event_writes::{
 };
 use crate::message_field::{MessageField, MessageFieldKind};
 use crate::row_write::{NoField, RowWrite};
+use crate::sorted_writes::SortedWrites;
 use ev_base::{Flag, MessageId, NoMemory, Place, StreamId, Text, UserId};
 use ev_types::{Event, FlagChange, FullMessage, ShownMessage};
 
 pub type MessageWrite = RowWrite<MessageId, ShownMessage, MessageField, NoField>;
+
+pub type SortedMessageWrites = SortedWrites<MessageId, ShownMessage, MessageField, NoField>;
 
 impl MadeOf<Event> for MessageWrite {
     ghost use Rattle.ev_types.specs.EventWrites.{message_writes};
@@ -97,6 +100,8 @@ fn place_in(stream: StreamId, topic: &Text) -> Result<Place, NoMemory>
 
 pub type ReactionWrite = RowWrite<(MessageId, UserId, Text), (), NoField, MessageId>;
 
+pub type SortedReactionWrites = SortedWrites<(MessageId, UserId, Text), (), NoField, MessageId>;
+
 impl MadeOf<Event> for ReactionWrite {
     ghost use Rattle.ev_types.specs.EventWrites.{reaction_writes};
 
@@ -143,6 +148,8 @@ fn reaction_put(message: MessageId, user: UserId, emoji: &Text) -> Result<Reacti
 }
 
 pub type StarredWrite = RowWrite<MessageId, (), NoField, NoField>;
+
+pub type SortedStarredWrites = SortedWrites<MessageId, (), NoField, NoField>;
 
 impl MadeOf<Event> for StarredWrite {
     ghost use Rattle.ev_types.specs.EventWrites.{starred_writes};
@@ -198,6 +205,8 @@ fn starred(message: MessageId, add: bool) -> StarredWrite
 }
 
 pub type UnreadWrite = RowWrite<MessageId, Place, Place, NoField>;
+
+pub type SortedUnreadWrites = SortedWrites<MessageId, Place, Place, NoField>;
 
 impl MadeOf<Event> for UnreadWrite {
     ghost use Rattle.ev_types.specs.EventWrites.{unread_writes};

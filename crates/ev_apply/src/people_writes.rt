@@ -5,12 +5,15 @@ ghost use Rattle.ev_types.specs.Writes.{drop_row, put};
 
 use crate::event_writes::{MadeOf, push_drops, push_drops_under, push_each, push_puts};
 use crate::row_write::{NoField, RowWrite};
+use crate::sorted_writes::SortedWrites;
 use ev_base::{NoMemory, StreamId, UserId};
 use ev_types::{
     Event, ShownStream, ShownSubscription, ShownUser, StreamField, SubscriptionField, UserField,
 };
 
 pub type UserWrite = RowWrite<UserId, ShownUser, UserField, NoField>;
+
+pub type SortedUserWrites = SortedWrites<UserId, ShownUser, UserField, NoField>;
 
 impl MadeOf<Event> for UserWrite {
     ghost use Rattle.ev_types.specs.EventWrites.{user_writes};
@@ -30,6 +33,8 @@ impl MadeOf<Event> for UserWrite {
 }
 
 pub type StreamWrite = RowWrite<StreamId, ShownStream, StreamField, NoField>;
+
+pub type SortedStreamWrites = SortedWrites<StreamId, ShownStream, StreamField, NoField>;
 
 impl MadeOf<Event> for StreamWrite {
     ghost use Rattle.ev_types.specs.EventWrites.{stream_writes};
@@ -51,6 +56,13 @@ impl MadeOf<Event> for StreamWrite {
 
 pub type SubscriptionWrite = RowWrite<StreamId, ShownSubscription, SubscriptionField, NoField>;
 
+pub type SortedSubscriptionWrites = SortedWrites<
+    StreamId,
+    ShownSubscription,
+    SubscriptionField,
+    NoField,
+>;
+
 impl MadeOf<Event> for SubscriptionWrite {
     ghost use Rattle.ev_types.specs.EventWrites.{subscription_writes};
 
@@ -70,6 +82,8 @@ impl MadeOf<Event> for SubscriptionWrite {
 }
 
 pub type SubscriberWrite = RowWrite<(StreamId, UserId), (), NoField, StreamId>;
+
+pub type SortedSubscriberWrites = SortedWrites<(StreamId, UserId), (), NoField, StreamId>;
 
 impl MadeOf<Event> for SubscriberWrite {
     ghost use Rattle.ev_types.specs.EventWrites.{subscriber_writes};

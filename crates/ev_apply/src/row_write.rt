@@ -1,7 +1,10 @@
 //! Writes to the rows of a section.
 
 ghost use Rattle.std.specs.Prelude.{◌≡◌, Bool};
+ghost use Rattle.std.specs.declared.cmp.Ordering.TheVariants.{Equal};
+ghost use Rattle.ev_apply.specs.Kinds.{covered};
 
+use std::collections::BTreeSet;
 use std::marker::Model;
 
 /// A field of a row, with its new value.
@@ -14,16 +17,33 @@ pub trait Field<V>: Drop {
 }
 
 /// A prefix of keys, under which all rows are dropped at once.
-pub trait Prefix<K>: Drop {
+pub trait Prefix<K>: Ord + Drop {
     ghost is_under: { Self → K → Bool };
 
-    /// Whether the key begins with this prefix.
-    fn is_prefix_of(&self, key: &K) -> bool
-        ensures { result ≡ is_under self.now key.now };
+    /// Whether the key begins with one of these prefixes.
+    fn cover(prefixes: &BTreeSet<Self>, key: &K) -> bool
+        ensures { result ≡ covered is_under prefixes.now.keys key.now };
+
+    ghost alike: { (a b : Self) → Self.Ord.cmp a b ≡ Equal
+        → (key : K) → is_under a key ≡ is_under b key };
 }
 
-/// A row is put, a field of the row of a key is set, a row is dropped, or all rows under a prefix of
-/// their keys are.
+/// What is written to the row of one key: it is put, a field of it is set, or it is dropped.
+#[derive(Drop)]
+pub enum Change<V, F> {
+    Put(V),
+    Patch(F),
+    DropRow,
+}
+
+/// A write to the row of one key.
+#[derive(Drop)]
+pub struct KeyWrite<K, V, F> {
+    pub key: K,
+    pub change: Change<V, F>,
+}
+
+/// A write to the row of one key, or all rows under a prefix of their keys are dropped.
 #[derive(Drop)]
 pub struct RowWrite<K, V, F, P> {
     kind: WriteKind<K, V, F, P>,
@@ -32,9 +52,7 @@ pub struct RowWrite<K, V, F, P> {
 // What the write does.
 #[derive(Drop)]
 pub enum WriteKind<K, V, F, P> {
-    Put(K, V),
-    Patch(K, F),
-    DropRow(K),
+    Row(KeyWrite<K, V, F>),
     DropUnder(P),
 }
 
@@ -49,30 +67,32 @@ impl<K, V, F, P> Model for RowWrite<K, V, F, P> {
 
 impl<K, V, F, P> RowWrite<K, V, F, P> {
     ghost use Rattle.ev_types.specs.Writes.{drop_row, drop_under, patch, put};
-    ghost use Rattle.ev_apply.specs.Kinds.{write_of_kind};
+    ghost use Rattle.ev_apply.specs.Kinds.{write_at, write_of_kind};
     ghost use Rattle.ev_apply.specs.Room.{is_put};
 
     pub fn put(key: K, value: V) -> Self
         ensures { result ≡ put key value }
     {
-        RowWrite {
-            kind: WriteKind::Put(key, value),
-        }
+        RowWrite::at(key, Change::Put(value))
     }
 
     pub fn patch(key: K, field: F) -> Self
         ensures { result ≡ patch key field }
     {
-        RowWrite {
-            kind: WriteKind::Patch(key, field),
-        }
+        RowWrite::at(key, Change::Patch(field))
     }
 
     pub fn drop_row(key: K) -> Self
         ensures { result ≡ drop_row key }
     {
+        RowWrite::at(key, Change::DropRow)
+    }
+
+    fn at(key: K, change: Change<V, F>) -> Self
+        ensures { result ≡ write_at key change }
+    {
         RowWrite {
-            kind: WriteKind::DropRow(key),
+            kind: WriteKind::Row(KeyWrite { key, change }),
         }
     }
 
@@ -95,7 +115,10 @@ impl<K, V, F, P> RowWrite<K, V, F, P> {
     pub fn is_put(&self) -> bool
         ensures { result ≡ is_put self.now }
     {
-        matches!(self.kind, WriteKind::Put(..))
+        match &self.kind {
+            WriteKind::Row(write) => matches!(write.change, Change::Put(_)),
+            WriteKind::DropUnder(_) => false,
+        }
     }
 }
 
