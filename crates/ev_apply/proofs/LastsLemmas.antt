@@ -1,5 +1,5 @@
 -- Which writes last, and that they may be done by key.
-use Rattle.std.proofs.Common.{◌≡◌, ℕ, ◌+◌, ◌≤◌, Bool, true, false, not, cond, ◌||◌, ◌&&◌, List, [], ◌∷◌, ◌++◌, length, filter, Option, None, Some, option_map, Less, Equal, Greater, Ordering, sym, ap, refl, subst, ◌∙◌, arith}
+use Rattle.std.proofs.Common.{◌≡◌, ℕ, Bool, true, false, not, cond, ◌||◌, ◌&&◌, List, [], ◌∷◌, ◌++◌, filter, Option, None, Some, option_map, Less, Equal, Greater, Ordering, sym, ap, refl, subst, ◌∙◌, arith}
 use Rattle.std.specs.Ordering.{is_lt, is_eq, ordering_reverse}
 use Rattle.std.specs.BTreeMap.{is_at}
 use Rattle.std.specs.List.{sum_by}
@@ -10,7 +10,7 @@ use Rattle.ev_rows.specs.KeyOrder.{KeyOrder}
 use Rattle.ev_rows.specs.Rows.{SortedByKey, row_at, only_if}
 use Rattle.ev_rows.proofs.RiseLemmas.{rise-filter}
 use Rattle.ev_rows.proofs.RowLemmas.{at_same, row_at-filter_keys, same_rows}
-use Rattle.ev_types.specs.Writes.{Write, Rules, put, patch, drop_row, drop_under, after_write, after_writes, cell_after_write, cell_after}
+use Rattle.ev_types.specs.Writes.{Write, Rules, drop_under, after_write, after_writes, cell_after_write, cell_after}
 use Rattle.ev_types.proofs.WriteLemmas.{rise-after_writes, row_at-after_writes}
 use Rattle.ev_apply.specs.declared.row_write.Change.{Change}
 use Rattle.ev_apply.specs.declared.row_write.Change.TheVariants as change

@@ -1,10 +1,9 @@
 -- A walk over rows from the greatest key down.
-use Rattle.std.proofs.Common.{◌≡◌, ℕ, ◌+◌, ◌<◌, ◌≤◌, Bool, true, false, List, [], ◌∷◌, ◌++◌, length, get_or, take, drop, ◌-◌, suc, zero, Option, None, Some, Less, Equal, Greater, Ordering, sym, ap, refl, subst, ◌∙◌, append_assoc, append-nil, arith, length-append, true≢false}
+use Rattle.std.proofs.Common.{◌≡◌, ℕ, ◌+◌, ◌<◌, ◌≤◌, true, false, List, [], ◌∷◌, ◌++◌, length, get_or, take, drop, ◌-◌, suc, Option, None, Some, Less, Equal, Greater, Ordering, sym, ap, refl, subst, ◌∙◌, append_assoc, append-nil, arith, length-append, true≢false}
 use Rattle.std.specs.Option.{IsNone, MatchOption, option_map_or, option_to_list}
 use Rattle.std.specs.Cmp.{IsTotalOrder}
 use Rattle.std.specs.Ordering.{is_lt, is_eq}
-use Rattle.std.specs.Map.{remove_entry}
-use Rattle.std.specs.BTreeMap.{insert_entry, is_at}
+use Rattle.std.specs.BTreeMap.{insert_entry}
 use Rattle.std.specs.List.Sorted.{IsSortedByKey}
 use Rattle.std.proofs.lemmas.Cmp.{tied_back, alike_right}
 use Rattle.std.proofs.lemmas.List.{get_or_append_left, drop-append-le, take-append-le}
@@ -13,7 +12,7 @@ use Rattle.std.proofs.lemmas.List.Sorted.{sorted_far}
 use Rattle.std.proofs.lemmas.List.MinMax.{ranks_by}
 use Rattle.ev_rows.specs.KeyOrder.{KeyOrder}
 use Rattle.ev_rows.specs.Rows.{SortedByKey, row_at}
-use Rattle.ev_rows.proofs.RiseLemmas.{IsBelow, AreBelow, IsBelow-further, IsBelow-equal, rise_front, rise_head, rise_tail, rise-nil, rise-cons, above-below, below-above}
+use Rattle.ev_rows.proofs.RiseLemmas.{IsBelow, AreBelow, IsBelow-further, IsBelow-equal, rise_front, rise_head, rise_tail, above-below, below-above}
 use Rattle.ev_rows.proofs.PlaceLemmas.{lookup-below, remove_entry-below}
 use Rattle.ev_types.specs.Writes.{Rules, after_write, after_writes}
 use Rattle.ev_types.proofs.WriteLemmas.{rise-after_writes}

@@ -1,4 +1,4 @@
-use Rattle.std.proofs.Common.{not, ap, rules}
+use Rattle.std.proofs.Common.{not, rules}
 use Rattle.std.proofs.lemmas.Fn.{always_returns_same}
 use Rattle.ev_apply.specs.Kinds.{covered}
 use Rattle.ev_apply.proofs.Prefixes.{kept_free}

@@ -1,9 +1,9 @@
-use Rattle.std.proofs.Common.{◌∙◌, ◌++◌, ap, sym, subst, is_lt, false, arith}
+use Rattle.std.proofs.Common.{◌∙◌, ◌++◌, ap, sym, subst, is_lt, false}
 use Rattle.std.specs.Option.{option_to_list}
 use Rattle.std.proofs.lemmas.Cmp.{tied_itself}
 use Rattle.ev_rows.specs.Rows.{SortedByKey}
 use Rattle.ev_types.specs.Writes.{Rules}
-use Rattle.ev_apply.proofs.WalkLemmas.{rise_left, next_below, next_room, later_room, walk_steps, walk_starts}
+use Rattle.ev_apply.proofs.WalkLemmas.{rise_left, next_below, next_room, later_room, walk_steps}
 use Rattle.ev_apply.proofs.rows.walked.Goals as goal
 
 pub edit-requires-clause-rise : goal.edit-requires-clause-rise

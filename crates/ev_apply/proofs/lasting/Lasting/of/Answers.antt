@@ -1,8 +1,7 @@
 use Rattle.std.proofs.Common.{◌∙◌, ◌++◌, ◌∷◌, ap, sym, append-nil, append_assoc, []}
 use Rattle.std.specs.Option.{option_to_list}
 use Rattle.ev_types.specs.Writes.{Rules}
-use Rattle.ev_apply.specs.Lasts.{Lasts}
-use Rattle.ev_apply.proofs.LastsLemmas.{IsReading, lasts_none}
+use Rattle.ev_apply.proofs.LastsLemmas.{lasts_none}
 use Rattle.ev_apply.proofs.lasting.Lasting.of.Goals as goal
 
 pub loop-write-init : goal.loop-write-init

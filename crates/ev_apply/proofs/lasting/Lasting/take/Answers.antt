@@ -3,7 +3,7 @@ use Rattle.ev_types.specs.Writes.{Rules}
 use Rattle.ev_apply.specs.Kinds.{covered}
 use Rattle.ev_apply.specs.Lasts.{Lasts}
 use Rattle.ev_apply.proofs.Prefixes.{covered_insert}
-use Rattle.ev_apply.proofs.LastsLemmas.{lasts_drop, lasts_row, lasts_without}
+use Rattle.ev_apply.proofs.LastsLemmas.{lasts_drop, lasts_row}
 use Rattle.ev_apply.proofs.lasting.Lasting.take.Goals as goal
 
 pub returns-in_ok-insert-in-DropUnder : goal.returns-in_ok-insert-in-DropUnder

@@ -1,4 +1,4 @@
-use Rattle.std.proofs.Common.{◌∙◌, ap, sym}
+use Rattle.std.proofs.Common.{◌∙◌, ap}
 use Rattle.ev_apply.specs.Walking.{order_to_last}
 use Rattle.ev_apply.proofs.WalkLemmas.{order_in_ring}
 use Rattle.ev_apply.proofs.walk.Walk.order_to_last.Goals as goal

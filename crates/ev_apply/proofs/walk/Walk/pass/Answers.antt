@@ -1,5 +1,4 @@
-use Rattle.std.proofs.Common.{◌<◌, ◌-◌, ap, arith, subst, sym, ◌≡◌, length, length-drop}
-use Rattle.ev_apply.specs.Walking.{IsPassed}
+use Rattle.std.proofs.Common.{◌<◌, ◌-◌, ap, arith, length, length-drop}
 use Rattle.ev_apply.proofs.WalkLemmas.{ring_passes}
 use Rattle.ev_apply.proofs.walk.Walk.pass.Goals as goal
 
