@@ -12,7 +12,8 @@ use Rattle.zw_traces.specs.RealmFeeds.{IsFrom, WasFetched, WereFetched, opening_
 use Rattle.zw_traces.specs.Histories.{History, IsFedHistory}
 use Rattle.zw_traces.proofs.Steps.{same_queue_is, same_queue_itself}
 use Rattle.zm_text.specs.Playing.{Fetching, fetching_of, is_opening_in, with_fetching}
-use Rattle.zm_play.specs.Parts.{Forgets, HasAt, Kept, parts_for, with_part}
+use Rattle.rg_flow.specs.Flows.{with_part}
+use Rattle.zm_play.specs.Parts.{Forgets, HasAt, Kept, parts_for}
 use Rattle.zm_play.specs.Played.{AreKept, HasParts, account_in, may_register}
 use Rattle.zm_play.proofs.Growing.{Grows, still_fetched, still_registers}
 

@@ -6,7 +6,6 @@ pub mod Keeping
 pub mod LineSteps
 pub mod PollSteps
 pub mod PushRounds
-pub mod Puts
 pub mod RegisterFlow
 pub mod Steps
 pub mod TickFlow

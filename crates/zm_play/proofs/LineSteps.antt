@@ -23,7 +23,8 @@ use Rattle.zm_text.specs.declared.outcome.Outcome.TheVariants.{BadQueue, FetchRe
 use Rattle.zm_text.specs.Playing.{Fetching, is_opening_in, with_fetch, with_fetching}
 use Rattle.zm_play.specs.Flows.{Any, Continues, Extends, FetchesOne, IsReady, PlaysAlone, is_alone}
 use Rattle.zm_play.specs.Flows.Extends.{rests, asks_realm}
-use Rattle.zm_play.specs.Parts.{Forgets, HasAt, Kept, parts_for, with_part}
+use Rattle.rg_flow.specs.Flows.{with_part}
+use Rattle.zm_play.specs.Parts.{Forgets, HasAt, Kept, parts_for}
 use Rattle.zm_play.specs.Played.{AreKept, HasParts, IsStanding, Stands, StepsOn, account_in}
 use Rattle.zm_play.proofs.AlonePlays.{alone_fetches_none, alone_plays}
 use Rattle.zm_play.proofs.Growing.{extends_grows, from_opening}

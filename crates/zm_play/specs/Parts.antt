@@ -1,18 +1,12 @@
 -- Sections that were fetched for queues in registration.
-use Rattle.std.specs.Prelude.{◌≡◌, false, List, [], ◌∷◌, ◌⊎◌, if◌then◌else◌}
+use Rattle.std.specs.Prelude.{◌≡◌, false, List, [], ◌⊎◌, if◌then◌else◌}
 use Rattle.std.specs.Map.{lookup}
 use Rattle.std.specs.Option.{unwrap_or}
 use Rattle.ev_base.specs.declared.ids.QueueId.{QueueId}
-use Rattle.ev_types.specs.OneSection.{same_section}
 use Rattle.zw_traces.specs.declared.shard.FetchedSection.{FetchedSection}
 use Rattle.zw_traces.specs.Account.{same_queue}
 use Rattle.zw_traces.specs.Histories.{History}
 use Rattle.zm_text.specs.Playing.{is_opening_in}
-
--- one that is fetched again replaces the first
-abbrev pub with_part : FetchedSection → List FetchedSection → List FetchedSection
-with_part new [] = new ∷ []
-with_part new (first ∷ others) = if same_section new.section first.section then new ∷ others else first ∷ with_part new others
 
 -- the sections that were fetched, by their queues
 abbrev pub Kept : Type 0

@@ -3,11 +3,12 @@
 ghost use Rattle.std.specs.Prelude.{◌≡◌, [], OnErr, OnOk};
 ghost use Rattle.zw_traces.specs.Histories.{History};
 ghost use Rattle.zw_world.specs.Worlds.{WorldRepresents};
-ghost use Rattle.zm_play.specs.Parts.{Forgets, HasAt, parts_for, parts_in, with_part};
+ghost use Rattle.rg_flow.specs.Flows.{with_part};
+ghost use Rattle.zm_play.specs.Parts.{Forgets, HasAt, parts_for, parts_in};
 
-use crate::parts::put_part;
 use ev_base::{Listed, NoMemory, QueueId};
 use indexmap::IndexMap;
+use rg_flow::put_part;
 use std::alloc::Global;
 use std::marker::Model;
 use zw_traces::FetchedSection;

@@ -4,7 +4,6 @@
 mod committing;
 mod fetched;
 mod fetching;
-mod parts;
 mod player;
 mod playing;
 mod polling;
