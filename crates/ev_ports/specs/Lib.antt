@@ -1,3 +1,4 @@
+pub mod Links
 pub mod Memory
 pub mod Ports
 pub mod Standard

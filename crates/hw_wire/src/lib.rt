@@ -1,0 +1,13 @@
+//! HTTP on a link: the requests that its bytes spell, in pieces of any size, and the responses.
+#![tactic(auto)]
+
+mod bodies;
+mod fields;
+mod heads;
+mod reader;
+mod requests;
+mod responses;
+
+pub use reader::Reader;
+pub use requests::{ReadEnd, Request, read_request};
+pub use responses::{Response, write_response};
