@@ -1,11 +1,15 @@
 -- Shards that represent their traces: the shard with an index, one more step of it, and one more shard.
-use Rattle.std.proofs.Common.{◌≡◌, ℕ, zero, suc, ◌<◌, List, [], ◌∷◌, ◌++◌, length, get_or, replicate, ap, sym, subst, refl, arith}
+use Rattle.std.proofs.Common.{◌≡◌, ℕ, zero, suc, ◌<◌, List, [], ◌∷◌, ◌++◌, length, get_or, replicate, cond, ap, sym, subst, refl, ◌∙◌, arith}
 use Rattle.std.proofs.Math.ListN.{set}
+use Rattle.ev_base.specs.declared.ids.QueueId.{QueueId}
+use Rattle.zw_traces.specs.Account.{Account, Phase, unopened, opening, live, gone, is_held_phase, is_opening_phase, unopened_account}
+use Rattle.zw_traces.specs.KeptAccount.{kept_account, without_pruned}
+use Rattle.zw_traces.specs.ShardTrace.{ShardAccount, account_of, pushed_events}
 use Rattle.zw_traces.specs.declared.shard.ShardInput.{ShardInput}
 use Rattle.zw_traces.specs.declared.shard.ShardReply.{ShardReply}
 use Rattle.zw_traces.specs.declared.shard.ShardStep.{ShardStep}
 use Rattle.zw_traces.specs.Histories.{History, trace_at, with_shard_step, with_step_at}
-use Rattle.q_shard.specs.HeldQueues.{ShardState}
+use Rattle.q_shard.specs.HeldQueues.{ShardState, account_in}
 use Rattle.zw_world.specs.Worlds.{EachRepresents, ShardRepresents, WorldRepresents, WorldState}
 
 -- the shard with an index represents the trace with that index
@@ -60,3 +64,19 @@ shard_stepped world shard found new input reply is within goes history represent
       shards = represents_set world.shards history.shards shard new step within represents.shards
           (goes trace (found_represents world.shards history.shards shard found is within represents.shards));
     }
+
+-- what is kept of a queue tells whether it is opening
+kept_opening : (a : Account) → is_opening_phase (kept_account a).phase ≡ is_opening_phase a.phase
+kept_opening a = go a.phase refl
+  where
+    go : (phase : Phase) → a.phase ≡ phase → is_opening_phase (cond (is_held_phase phase) (without_pruned a) unopened_account).phase ≡ is_opening_phase phase
+    go unopened is = refl
+    go opening is = ap is_opening_phase is
+    go live is = ap is_opening_phase is
+    go gone is = refl
+
+-- and so does a shard that represents its trace
+pub opening_is_seen : (queue : QueueId) (shard : ShardState) (trace : List ShardStep) → ShardRepresents shard trace
+    → is_opening_phase (account_in shard.queues queue).phase ≡ is_opening_phase (account_of pushed_events queue trace).phase
+opening_is_seen queue shard trace represents =
+    ap (λ (s : ShardAccount). is_opening_phase (s.account queue).phase) represents.keeps ∙ kept_opening (account_of pushed_events queue trace)

@@ -2,13 +2,14 @@
 
 ghost use Rattle.std.specs.Prelude.{◌≡◌, ◌≤◌, ◌<◌, IfOk, length};
 ghost use Rattle.zw_traces.specs.RealmTrace.{RealmAnswers};
-ghost use Rattle.zw_traces.specs.ShardTrace.{ShardAnswers, given_rows, pushed_events, shard_account};
+ghost use Rattle.zw_traces.specs.Account.{is_opening_phase};
+ghost use Rattle.zw_traces.specs.ShardTrace.{ShardAnswers, account_of, given_rows, pushed_events, shard_account};
 ghost use Rattle.zw_traces.specs.Histories.{History, opening_history, shard_of, trace_at, with_realm_step, with_shard_step};
 ghost use Rattle.q_shard.specs.ShardInputs as of_shard;
 ghost use Rattle.zw_realm.specs.CoreStates as of_realm;
 ghost use Rattle.zw_world.specs.Worlds.{MayReply, ShardMayReply, WorldRepresents};
 
-use ev_base::{NoMemory, UserId};
+use ev_base::{NoMemory, QueueId, UserId};
 use q_shard::ShardCore;
 use std::alloc::Global;
 use std::marker::Model;
@@ -80,6 +81,16 @@ impl World {
         ensures below { result < length self.now.shards }
     {
         user.0 % self.shards()
+    }
+
+    /// Whether the queue is in registration. Takes no memory, and is no step.
+    pub fn is_opening(&self, queue: QueueId) -> bool
+        ensures { (history : History) → WorldRepresents self.now history
+            → result ≡ is_opening_phase (account_of pushed_events queue
+            (trace_at (shard_of (length self.now.shards) queue.user) history.shards)).phase }
+    {
+        let shard = self.serving(queue.user);
+        self.shards[shard as usize].is_opening(queue)
     }
 
     /// Asks the realm, whose answer is right after its steps before.
