@@ -243,8 +243,9 @@ pub record Turn : Type 0 where
 abbrev pub steps_in : List Turn → List Step
 steps_in turns = map (λ (turn : Turn). turn.step) turns
 
--- the sections that a line fetched for a queue
+-- the sections that lines fetched for a queue, after one more line; where a line begins over, none were
 abbrev pub fetched_after : QueueId → Step → Outcome → List Fetching → List Fetching
+fetched_after queue (Shards count) outcome before = []
 fetched_after queue (Fetch other section) (Fetched which at) before =
     if same_queue queue other then with_fetching (record { section = which; at = at }) before else before
 fetched_after queue step outcome before = before
