@@ -1,7 +1,13 @@
-pub mod PlayedSteps
-pub mod PollSteps
+pub mod AlonePlays
 mod FetchFlow
+pub mod FinishSteps
+pub mod Growing
+pub mod Keeping
+pub mod LineSteps
+pub mod PollSteps
 pub mod PushRounds
+pub mod Puts
 pub mod RegisterFlow
 pub mod Steps
 pub mod TickFlow
+pub mod Turns

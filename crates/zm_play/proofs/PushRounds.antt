@@ -20,8 +20,8 @@ use Rattle.zw_laws.proofs.FedSteps.{taken_notices_are_announced}
 use Rattle.zs_script.specs.declared.step.Step.TheVariants.{PushFrom}
 use Rattle.zm_text.specs.declared.outcome.Outcome.{Outcome}
 use Rattle.zm_text.specs.declared.outcome.Outcome.TheVariants as told
-use Rattle.zm_text.specs.Playing.{CatchesUp, Plays, PlaysPush, PlaysPushFrom, Round, TakesAndPushes}
-use Rattle.zm_play.specs.Flows.{Any, Asks, Continues, Extends, IsAt, IsDue, IsNext, IsReady, MayCatchUp, OrStops, PushesTaken, TakesNext, TakesUpTo, WereTaken, trace_of}
+use Rattle.zm_text.specs.Playing.{CatchesUp, PlaysPush, PlaysPushFrom, Round, TakesAndPushes}
+use Rattle.zm_play.specs.Flows.{Any, Asks, Continues, Extends, IsAt, IsDue, IsNext, IsReady, MayCatchUp, OrStops, PushesTaken, TakesNext, TakesUpTo, WereTaken, trace_of, PlaysAlone}
 use Rattle.zm_play.specs.Flows.Extends.{rests, asks_realm, asks_shard}
 use Rattle.zm_play.proofs.Steps.{goes_ready, goes_twice, goes_when, last_answer, trace_at-with_step_at, traces_of_shards, realm_goes}
 
@@ -56,7 +56,7 @@ took first from list before answers =
 -- what was taken is pushed
 plays_push_from : (moment index first : ℕ) (list : List Notice) (outcome : Outcome) (before between after : History)
     → between ≡ with_realm_step (Take first) (Notices first list) before → PushesTaken index first list outcome between after
-    → Plays moment (PushFrom index first) outcome before after
+    → PlaysAlone moment (PushFrom index first) outcome before after
 plays_push_from moment index first list (told.Pushed reached) before between after taken pushes =
     record { notices = list; pushed = pushes ∙ ap (with_shard_step index (Push first list) (Pushed reached)) taken }
 plays_push_from moment index first list (told.Gap have from) before between after taken pushes =
@@ -74,7 +74,7 @@ module _ (old mid : WorldState) (first from : ℕ) (list : List Notice)
 
   pub push_from_goes : (moment index : ℕ) (new : WorldState) (result : Result Outcome NoMemory)
       → Continues mid new (WereTaken first list) (OrStops result (PushesTaken index first list))
-      → Continues old new Any (OrStops result (Plays moment (PushFrom index first)))
+      → Continues old new Any (OrStops result (PlaysAlone moment (PushFrom index first)))
   push_from_goes moment index new (Ok outcome) pushes = goes_twice take_goes pushes (λ before between at now. now.holds.announced) (λ before between after at now last.
       plays_push_from moment index first list outcome before between after now.holds.is last.holds)
   push_from_goes moment index new (Err none) pushes = goes_twice take_goes pushes (λ before between at now. now.holds.announced) (λ before between after at now last.
@@ -113,14 +113,14 @@ module _ (old new : WorldState) (index first : ℕ) (below : index < length old.
   below_there : (before : History) → IsAt old (IsNext index first) before → index < length before.shards
   below_there before at = let traces = traces_of_shards old before at.represents in omega arith
 
-  pub next_goes : (moment reached : ℕ) → Continues old new Any (Plays moment (PushFrom index first) (told.Pushed reached))
+  pub next_goes : (moment reached : ℕ) → Continues old new Any (PlaysAlone moment (PushFrom index first) (told.Pushed reached))
       → Continues old new (IsNext index first) (TakesNext index first reached)
   next_goes moment reached pushes before at =
       let there = goes_when (λ history holds. tt) pushes before at in
       let now = there.1 in
       (there.0, record { represents = now.represents; fed = now.fed; holds = pushes_next index first before there.0 (below_there before at) at.holds now.fed reached now.holds })
 
-  pub next_is_pushed : (moment : ℕ) (outcome : Outcome) → IsReady old (IsNext index first) → Continues old new Any (Plays moment (PushFrom index first) outcome)
+  pub next_is_pushed : (moment : ℕ) (outcome : Outcome) → IsReady old (IsNext index first) → Continues old new Any (PlaysAlone moment (PushFrom index first) outcome)
       → ((reached : ℕ) → outcome ≡ told.Pushed reached → ⊥) → ⊥
   next_is_pushed moment (told.Pushed reached) ready pushes none = none reached refl
   next_is_pushed moment (told.Gap have from) ready pushes none =
@@ -191,7 +191,7 @@ rounds_end old now index need have reached enough first before at =
     (there.0, record { represents = last.represents; fed = last.fed; holds = last.holds.rounds reached [] there.0 (enough, refl, refl) })
 
 -- takes and pushes are more steps
-pushes_go_on : (index need have : ℕ) (rounds : List Round) (before : History) (reached : ℕ) (after : History)
+pub pushes_go_on : (index need have : ℕ) (rounds : List Round) (before : History) (reached : ℕ) (after : History)
     → TakesAndPushes index need have rounds before reached after → Extends before after
 pushes_go_on index need have [] before reached after pushed = subst (λ history. Extends before history) (sym pushed.2) rests
 pushes_go_on index need have (round ∷ rounds) before reached after pushed =

@@ -28,12 +28,13 @@ use Rattle.zw_traces.proofs.Steps.{opened_tells, same_queue_itself}
 use Rattle.zw_world.specs.Worlds.{WorldState, WorldRepresents}
 use Rattle.zw_laws.proofs.Announced.{position_announced}
 use Rattle.zw_laws.proofs.FedSteps.{fed_steps_stay_fed, length-with_step_at}
-use Rattle.zs_script.specs.declared.step.Step.TheVariants.{Register}
+use Rattle.zs_script.specs.declared.step.Step.TheVariants.{OpenQueue, Register}
 use Rattle.zm_text.specs.declared.outcome.Outcome.{Outcome}
+use Rattle.zm_text.specs.declared.outcome.Outcome.TheVariants as told
 use Rattle.zm_text.specs.declared.outcome.Outcome.TheVariants.{FetchRefused, Finished, BadQueue}
-use Rattle.zm_text.specs.Playing.{CatchesUp, Plays, PlaysRegister, PlaysRefusedFetch, Round, TakesAndPushes, salt, sections, serving, with_fetches, with_opening}
+use Rattle.zm_text.specs.Playing.{CatchesUp, PlaysRegister, PlaysRefusedFetch, Round, TakesAndPushes, salt, sections, serving, with_fetches, with_opening}
 use Rattle.zm_text.proofs.Fetches.{fetched_parts, fetches_commands, fetches_shards, needed_within, none_missing, were_fetched}
-use Rattle.zm_play.specs.Flows.{Any, Asks, Completes, Continues, Extends, FetchesAll, Finishes, IsAt, IsReady, MayCatchUp, MayComplete, MayDelete, MayFinish, OrStops, Registers, WasOpened, queue_in, trace_of}
+use Rattle.zm_play.specs.Flows.{Any, Asks, Completes, Continues, Extends, FetchesAll, Finishes, IsAt, IsReady, MayCatchUp, MayComplete, MayDelete, MayFinish, OrStops, Registers, WasOpened, queue_in, trace_of, PlaysAlone}
 use Rattle.zm_play.specs.Flows.Extends.{rests, asks_shard}
 use Rattle.zm_play.proofs.FetchFlow.{fetches_extend}
 use Rattle.zm_play.proofs.PushRounds.{catches_go_on, goes_on_from}
@@ -141,7 +142,7 @@ module _ (index : ℕ) (queue : QueueId) where
         let enough = kept.2 in
         let fetched = may.fetched in
         let many = k.many in
-        let trace_fed = trace_is_fed after index fed (omega arith) in
+        let trace_fed = trace_is_fed after index fed in
         let still = fed_steps_stay_fed k.later before.realm (length after.shards) index k.more (trace_of index before) (Finish queue parts)
         (subst IsLegalRealm k.realm_is fed.realm)
         (subst (λ realm. IsFedBy realm (length after.shards) index (k.more ++ trace_of index before)) k.realm_is
@@ -248,7 +249,7 @@ module _ (index : ℕ) (user : UserId) (asked : List Section) (queue : QueueId) 
         let tells = opened_tells (shard_account pushed_events (trace_of index start)) given_rows user salt moment types asked queue have
         (last_answer start index (Start user salt moment types asked) (Opened queue have) below_there (subst IsFedHistory opened_there fed)) in
         let traces = traces_of_shards world history represents in
-        let trace_fed = trace_is_fed history index fed (omega arith) in
+        let trace_fed = trace_is_fed history index fed in
         let announced = position_announced history.realm pushed_events given_rows (trace_of index history) trace_fed.legal trace_fed.fed in
         let made = announced_within history.realm fed.realm in
         let place : position_of (trace_of index history) ≡ have = ap position_of trace_is ∙ sym tells.1 in
@@ -397,7 +398,23 @@ module _ (old mid : WorldState) (moment : ℕ) (user : UserId) (types : Types) (
 
   -- where it was filled, the registration is played
   pub register_goes : (new : WorldState) (result : Result Outcome NoMemory) → Continues mid new (WasOpened user asked queue have) (OrStops result (Registers user asked queue have))
-      → Continues old new Any (OrStops result (Plays moment (Register user types asked)))
+      → Continues old new Any (OrStops result (PlaysAlone moment (Register user types asked)))
   register_goes new (Ok outcome) goes = goes_twice opens goes (λ before between at now. (moment, types, before, now.holds)) (λ before between after at now last. last.holds moment types before now.holds)
   register_goes new (Err none) stops = goes_twice opens stops (λ before between at now. (moment, types, before, now.holds)) (λ before between after at now last.
       goes_on_from (subst (λ h. Extends before h) (sym now.holds) (asks_shard (serving user before) (Start user salt moment types asked) (Opened queue have) rests)) last.holds)
+
+-- where the queue wasn't opened, the registration is refused as the opening is
+pub register_refused : (old new : WorldState) (moment : ℕ) (user : UserId) (types : Types) (asked : List Section) (outcome : Outcome)
+    → ((queue : QueueId) (position : ℕ) → outcome ≡ told.Opened queue position → ⊥)
+    → Continues old new Any (PlaysAlone moment (OpenQueue user types asked) outcome) → Continues old new Any (PlaysAlone moment (Register user types asked) outcome)
+register_refused old new moment user types asked outcome unopened goes before at =
+    let there = goes before at in
+    let now = there.1 in
+    (there.0, record { represents = now.represents; fed = now.fed; holds = go before there.0 outcome unopened now.holds })
+  where
+    go : (before after : History) (outcome : Outcome) → ((queue : QueueId) (position : ℕ) → outcome ≡ told.Opened queue position → ⊥)
+        → PlaysAlone moment (OpenQueue user types asked) outcome before after → PlaysAlone moment (Register user types asked) outcome before after
+    go before after (told.Opened queue position) unopened plays = absurd (unopened queue position refl)
+    go before after told.OpensSpent unopened plays = plays
+    go before after told.TooManyQueues unopened plays = plays
+    go before after outcome unopened plays = absurd plays

@@ -1,6 +1,7 @@
 -- What one more step of a core makes of the histories that a world represents for.
-use Rattle.std.proofs.Common.{◌≡◌, ℕ, zero, suc, ◌+◌, ◌<◌, List, [], ◌∷◌, length, refl, ap, sym, subst, ◌∙◌, zero-add, arith}
+use Rattle.std.proofs.Common.{◌≡◌, ℕ, zero, suc, ◌+◌, ◌<◌, Bool, List, [], ◌∷◌, length, refl, ap, sym, subst, ◌∙◌, zero-add, arith}
 use Rattle.ev_base.specs.declared.ids.UserId.{UserId}
+use Rattle.ev_base.specs.declared.ids.QueueId.{QueueId}
 use Rattle.zw_traces.specs.declared.realm.RealmInput.{RealmInput}
 use Rattle.zw_traces.specs.declared.realm.RealmReply.{RealmReply}
 use Rattle.zw_traces.specs.declared.shard.ShardInput.{ShardInput}
@@ -8,12 +9,13 @@ use Rattle.zw_traces.specs.declared.shard.ShardReply.{ShardReply}
 use Rattle.zw_traces.specs.declared.realm.RealmStep.{RealmStep}
 use Rattle.zw_traces.specs.declared.shard.ShardStep.{ShardStep}
 use Rattle.zw_traces.specs.RealmTrace.{RealmAnswers}
-use Rattle.zw_traces.specs.ShardTrace.{ShardAnswers, IsLegalShard, given_rows, pushed_events, shard_account}
+use Rattle.zw_traces.specs.ShardTrace.{ShardAnswers, IsLegalShard, account_of, given_rows, pushed_events, shard_account}
 use Rattle.zw_traces.specs.Histories.{History, AllFed, IsFedBy, IsFedHistory, MayBeAsked, trace_at, shard_of, with_realm_step, with_shard_step, with_step_at}
 use Rattle.q_shard.specs.HeldQueues.{ShardState}
 use Rattle.zw_world.specs.Worlds.{WorldState, WorldRepresents, EachRepresents}
 use Rattle.zw_laws.proofs.FedSteps.{length-with_step_at, realm_steps_keep_fed, shard_steps_keep_fed}
-use Rattle.zm_text.specs.Playing.{with_step_for}
+use Rattle.zw_traces.specs.Account.{is_opening_phase}
+use Rattle.zm_text.specs.Playing.{is_opening_in, with_step_for}
 use Rattle.zm_play.specs.Flows.{Any, Extends, IsAt, IsReady, Continues, trace_of}
 use Rattle.zm_play.specs.Flows.Extends.{rests}
 
@@ -26,6 +28,13 @@ EachRepresents-length (shard ∷ shards) (trace ∷ traces) each = ap suc (EachR
 
 pub traces_of_shards : (world : WorldState) (history : History) → WorldRepresents world history → length world.shards ≡ length history.shards
 traces_of_shards world history represents = EachRepresents-length world.shards history.shards represents.shards
+
+-- a queue that a world tells to be opening is so in the history
+pub is_opening_there : (world : WorldState) (history : History) (queue : QueueId) (result : Bool) → WorldRepresents world history
+    → result ≡ is_opening_phase (account_of pushed_events queue (trace_at (shard_of (length world.shards) queue.user) history.shards)).phase
+    → is_opening_in queue history ≡ result
+is_opening_there world history queue result represents is =
+    sym (is ∙ ap (λ n. is_opening_phase (account_of pushed_events queue (trace_at (shard_of n queue.user) history.shards)).phase) (traces_of_shards world history represents))
 
 -- the trace of the shard that was asked has one more step
 pub trace_at-with_step_at : (index : ℕ) (step : ShardStep) (traces : List (List ShardStep)) → index < length traces
@@ -92,18 +101,17 @@ goes_twice first second ready so before at =
     (after.0, record { represents = last.represents; fed = last.fed; holds = so before between.0 after.0 at now last })
 
 module _ (realm : List RealmStep) (count : ℕ) where
-  fed_at : (index first at : ℕ) (traces : List (List ShardStep)) → index < length traces → at ≡ first + index
+  fed_at : (index first at : ℕ) (traces : List (List ShardStep)) → at ≡ first + index
       → AllFed realm count first traces → IsFedBy realm count at (trace_at index traces)
-  fed_at index first at [] below at_is fed = absurd (omega arith)
-  fed_at zero first at (trace ∷ traces) below at_is fed =
+  fed_at index first at [] at_is fed = record { legal = tt; fed = tt; parted = tt; served = tt }
+  fed_at zero first at (trace ∷ traces) at_is fed =
       let same : first ≡ at = omega arith in
       subst (λ n. IsFedBy realm count n trace) same fed.0
-  fed_at (suc index) first at (trace ∷ traces) below at_is fed = fed_at index (first + 1) at traces (omega arith) (omega arith) fed.1
+  fed_at (suc index) first at (trace ∷ traces) at_is fed = fed_at index (first + 1) at traces (omega arith) fed.1
 
 -- the trace of each shard is fed
-pub trace_is_fed : (history : History) (index : ℕ) → IsFedHistory history → index < length history.shards
-    → IsFedBy history.realm (length history.shards) index (trace_of index history)
-trace_is_fed history index fed below = fed_at history.realm (length history.shards) index 0 index history.shards below (sym (zero-add index)) fed.shards
+pub trace_is_fed : (history : History) (index : ℕ) → IsFedHistory history → IsFedBy history.realm (length history.shards) index (trace_of index history)
+trace_is_fed history index fed = fed_at history.realm (length history.shards) index 0 index history.shards (sym (zero-add index)) fed.shards
 
 -- what a shard was asked last it answered rightly
 pub last_answer : (history : History) (index : ℕ) (input : ShardInput) (reply : ShardReply) → index < length history.shards
@@ -111,7 +119,7 @@ pub last_answer : (history : History) (index : ℕ) (input : ShardInput) (reply 
 last_answer history index input reply below fed =
     let step : ShardStep = record { input = input; reply = reply } in
     let many = length-with_step_at index step history.shards in
-    let last = trace_is_fed (with_shard_step index input reply history) index fed (omega arith) in
+    let last = trace_is_fed (with_shard_step index input reply history) index fed in
     (subst IsLegalShard (trace_at-with_step_at index step history.shards below) last.legal).0
 
 -- a claim that says more serves as well

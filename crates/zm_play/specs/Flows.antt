@@ -1,5 +1,5 @@
 -- What a part of a step does to the histories that a world represents.
-use Rattle.std.specs.Prelude.{◌≡◌, ℕ, ◌+◌, ◌≤◌, true, Option, None, Some, List, Result, Ok, Err}
+use Rattle.std.specs.Prelude.{◌≡◌, ℕ, ◌+◌, ◌≤◌, Bool, true, false, [], Option, None, Some, List, Result, Ok, Err}
 use Rattle.ev_base.specs.declared.ids.UserId.{UserId}
 use Rattle.ev_base.specs.declared.ids.QueueId.{QueueId}
 use Rattle.ev_base.specs.declared.expired.Expired.{Expired}
@@ -24,7 +24,8 @@ use Rattle.zw_traces.specs.Account.{Account, is_held}
 use Rattle.zw_traces.specs.ShardTrace.{account_of, position_of, pushed_events}
 use Rattle.zw_traces.specs.Histories.{History, IsFedHistory, MayBeAsked, trace_at, with_realm_step, with_shard_step}
 use Rattle.zw_world.specs.Worlds.{WorldState, WorldRepresents}
-use Rattle.zs_script.specs.declared.step.Step.TheVariants.{Register}
+use Rattle.zs_script.specs.declared.step.Step.{Step}
+use Rattle.zs_script.specs.declared.step.Step.TheVariants.{Fetch as FetchPart, Finish, Register, Shards}
 use Rattle.zm_text.specs.declared.outcome.Outcome.{Outcome}
 use Rattle.zm_text.specs.declared.outcome.Outcome.TheVariants.{Finished, BadQueue, Pushed, Gap}
 use Rattle.zm_text.specs.Playing.{CatchesUp, Plays, PlaysRefusedFetch, Round, TakesAndPushes, sections, with_fetch, with_fetches, with_opening}
@@ -57,6 +58,17 @@ pub data Extends (before : History) : History → Type 0 where
 abbrev pub OrStops : {V : Type 0} → Result V NoMemory → (V → History → History → Type 0) → History → History → Type 0
 OrStops (Ok value) follows before after = follows value before after
 OrStops (Err none) follows before after = Extends before after
+
+-- the step is of one line: it doesn't begin over, and has nothing to do with sections that lines fetch
+abbrev pub is_alone : Step → Bool
+is_alone (Shards count) = false
+is_alone (FetchPart queue section) = false
+is_alone (Finish queue) = false
+is_alone step = true
+
+-- such a step is played
+abbrev pub PlaysAlone : ℕ → Step → Outcome → History → History → Type 0
+PlaysAlone moment step outcome before after = Plays moment (λ queue. []) step outcome before after
 
 -- the trace of a shard, and what it makes of a queue
 abbrev pub trace_of : ℕ → History → List ShardStep
@@ -128,7 +140,7 @@ WasOpened user asked queue have history =
 abbrev pub Registers : UserId → List Section → QueueId → ℕ → Outcome → History → History → Type 0
 Registers user asked queue have outcome before after =
     (moment : ℕ) (types : Types) (start : History) → (before ≡ with_opening moment user types asked queue have start)
-    → Plays moment (Register user types asked) outcome start after
+    → PlaysAlone moment (Register user types asked) outcome start after
 
 -- the queue is known, and once its shard has caught up may be finished with these sections
 pub record MayComplete (index : ℕ) (queue : QueueId) (have : ℕ) (parts : List FetchedSection) (history : History) : Type 0 where

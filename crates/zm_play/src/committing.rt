@@ -5,8 +5,7 @@ ghost use Rattle.zw_traces.specs.Histories.{with_realm_step};
 ghost use Rattle.zw_traces.specs.declared.realm.RealmInput.{RealmInput};
 ghost use Rattle.zw_traces.specs.declared.realm.RealmReply.{RealmReply};
 ghost use Rattle.zs_script.specs.declared.step.Step.{Step};
-ghost use Rattle.zm_text.specs.Playing.{Plays};
-ghost use Rattle.zm_play.specs.Flows.{Any, Continues, OrStops};
+ghost use Rattle.zm_play.specs.Flows.{Any, Continues, OrStops, PlaysAlone};
 
 use ev_base::{NoMemory, UserId};
 use std::alloc::Global;
@@ -24,7 +23,7 @@ pub fn commit(
     command: Command,
 ) -> Result<Outcome, NoMemory>
     ensures continues { Continues world.old world.new Any
-        (OrStops result (Plays moment (Step.Command actor command))) }
+        (OrStops result (PlaysAlone moment (Step.Command actor command))) }
     ensures shards { length world.new.shards ≡ length world.old.shards }
 {
     match world.ask_realm(

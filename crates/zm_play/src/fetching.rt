@@ -2,8 +2,7 @@
 
 ghost use Rattle.std.specs.Prelude.{◌≡◌, ℕ, length};
 ghost use Rattle.zs_script.specs.declared.step.Step.{Step};
-ghost use Rattle.zm_text.specs.Playing.{Plays};
-ghost use Rattle.zm_play.specs.Flows.{Any, Continues, FetchesAll, FetchesOne, IsReady, OrStops};
+ghost use Rattle.zm_play.specs.Flows.{Any, Continues, FetchesAll, FetchesOne, IsReady, OrStops, PlaysAlone};
 
 use crate::states::state_of;
 use ev_base::{Listed, NoMemory, UserId};
@@ -30,7 +29,7 @@ const ALL_SECTIONS: [Section; 9] = [
 pub fn view(world: &mut World, alloc: Global, user: UserId) -> Result<Outcome, NoMemory>
     requires ready { IsReady world.old Any }
     ensures continues { (moment : ℕ) → Continues world.old world.new Any
-        (OrStops result (Plays moment (Step.View user))) }
+        (OrStops result (PlaysAlone moment (Step.View user))) }
     ensures shards { length world.new.shards ≡ length world.old.shards }
 {
     match fetch(world, alloc, user, &ALL_SECTIONS)? {
@@ -63,7 +62,8 @@ pub fn fetch(
     Ok(Some(Listed::from_vec(parts)))
 }
 
-fn fetch_one(
+/// Fetches a section. There is none where the realm refuses it.
+pub fn fetch_one(
     world: &mut World,
     alloc: Global,
     user: UserId,

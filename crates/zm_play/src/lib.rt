@@ -2,10 +2,14 @@
 #![tactic(auto)]
 
 mod committing;
+mod fetched;
 mod fetching;
+mod parts;
 mod player;
+mod playing;
 mod polling;
 mod pushing;
+mod queue_lines;
 mod registering;
 mod sharding;
 mod states;

@@ -2,8 +2,7 @@
 
 ghost use Rattle.std.specs.Prelude.{◌≡◌, ℕ, length};
 ghost use Rattle.zs_script.specs.declared.step.Step.{Step};
-ghost use Rattle.zm_text.specs.Playing.{Plays};
-ghost use Rattle.zm_play.specs.Flows.{Any, Continues, OrStops};
+ghost use Rattle.zm_play.specs.Flows.{Any, Continues, OrStops, PlaysAlone};
 
 use ev_base::{NoMemory, QueueId, UserId};
 use std::alloc::Global;
@@ -23,7 +22,7 @@ pub fn poll(
     beat: bool,
 ) -> Result<Outcome, NoMemory>
     ensures continues { Continues world.old world.new Any
-        (OrStops result (Plays moment (Step.Poll user queue after beat))) }
+        (OrStops result (PlaysAlone moment (Step.Poll user queue after beat))) }
     ensures shards { length world.new.shards ≡ length world.old.shards }
 {
     let shard = world.serving(user);
@@ -55,7 +54,7 @@ pub fn poll(
 /// Deletes a queue of a user.
 pub fn delete_queue(world: &mut World, alloc: Global, user: UserId, queue: QueueId) -> Outcome
     ensures continues { (moment : ℕ) → Continues world.old world.new Any
-        (Plays moment (Step.DeleteQueue user queue) result) }
+        (PlaysAlone moment (Step.DeleteQueue user queue) result) }
     ensures shards { length world.new.shards ≡ length world.old.shards }
 {
     let shard = world.serving(user);

@@ -2,9 +2,9 @@
 
 ghost use Rattle.std.specs.Prelude.{◌≡◌, ◌<◌, ◌≤◌, ℕ, length};
 ghost use Rattle.zs_script.specs.declared.step.Step.{Step};
-ghost use Rattle.zm_text.specs.Playing.{CatchesUp, Plays};
+ghost use Rattle.zm_text.specs.Playing.{CatchesUp};
 ghost use Rattle.q_shard.specs.ShardInputs.{AreNumbered};
-ghost use Rattle.zm_play.specs.Flows.{Any, Asks, Continues, IsDue, IsNext, IsReady, MayCatchUp, OrStops, PushesTaken, TakesNext, TakesUpTo, WereTaken};
+ghost use Rattle.zm_play.specs.Flows.{Any, Asks, Continues, IsDue, IsNext, IsReady, MayCatchUp, OrStops, PlaysAlone, PushesTaken, TakesNext, TakesUpTo, WereTaken};
 
 use crate::committing::announce;
 use ev_base::{Listed, NoMemory};
@@ -19,7 +19,7 @@ pub fn push(world: &mut World, alloc: Global, shard: u32) -> Result<Outcome, NoM
     requires index { shard < length world.old.shards }
     requires ready { IsReady world.old Any }
     ensures continues { (moment : ℕ) → Continues world.old world.new Any
-        (OrStops result (Plays moment (Step.Push shard))) }
+        (OrStops result (PlaysAlone moment (Step.Push shard))) }
     ensures shards { length world.new.shards ≡ length world.old.shards }
 {
     let have = locate(world, alloc, shard);
@@ -51,7 +51,7 @@ pub fn push_from(
     requires from_one { 1 ≤ first }
     requires ready { IsReady world.old Any }
     ensures continues { (moment : ℕ) → Continues world.old world.new Any
-        (OrStops result (Plays moment (Step.PushFrom shard first))) }
+        (OrStops result (PlaysAlone moment (Step.PushFrom shard first))) }
     ensures shards { length world.new.shards ≡ length world.old.shards }
 {
     match world.ask_realm(alloc, RealmInput::Take { first }) {

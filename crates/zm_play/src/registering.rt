@@ -5,15 +5,15 @@ ghost use Rattle.zs_script.specs.declared.step.Step.{Step};
 ghost use Rattle.zw_traces.specs.Histories.{shard_of};
 ghost use Rattle.zw_traces.specs.declared.shard.ShardInput.{ShardInput};
 ghost use Rattle.zw_traces.specs.declared.shard.ShardReply.{ShardReply};
-ghost use Rattle.zm_text.specs.Playing.{Plays};
-ghost use Rattle.zm_play.specs.Flows.{Any, Asks, Completes, Continues, Finishes, IsReady, MayComplete, MayDelete, MayFinish, OrStops, Registers, WasOpened};
+ghost use Rattle.zm_play.specs.Flows.{Any, Asks, Completes, Continues, Finishes, IsReady, MayComplete, MayDelete, MayFinish, OrStops, PlaysAlone, Registers, WasOpened};
 
 use crate::fetching::fetch;
 use crate::pushing::catch_up;
+use crate::queue_lines::open_queue;
 use ev_base::{Listed, NoMemory, QueueId, UserId};
 use ev_types::{Section, Types};
 use std::alloc::Global;
-use zm_text::{Outcome, SALT};
+use zm_text::Outcome;
 use zw_traces::{FetchedSection, ShardInput, ShardReply};
 use zw_world::World;
 
@@ -28,30 +28,15 @@ pub fn register(
 ) -> Result<Outcome, NoMemory>
     requires ready { IsReady world.old Any }
     ensures continues { Continues world.old world.new Any
-        (OrStops result (Plays moment (Step.Register user types asked))) }
+        (OrStops result (PlaysAlone moment (Step.Register user types asked))) }
     ensures shards { length world.new.shards ≡ length world.old.shards }
 {
-    let shard = world.serving(user);
     let sections = copied(alloc, asked.as_slice())?;
-    let salt = SALT;
-    match world.ask_shard(
-        alloc,
-        shard,
-        ShardInput::Start {
-            user,
-            salt,
-            moment,
-            types,
-            asked,
-        },
-    ) {
-        ShardReply::Opened { queue, position } => {
+    match open_queue(world, alloc, moment, user, types, asked)? {
+        Outcome::Opened { queue, position } => {
             fill(world, alloc, user, &sections, queue, position)
         }
-        ShardReply::OpensSpent => Ok(Outcome::OpensSpent),
-        ShardReply::TooManyQueues => Ok(Outcome::TooManyQueues),
-        ShardReply::NoMemory => Err(NoMemory),
-        _ => unreachable!(),
+        refused => Ok(refused),
     }
 }
 

@@ -4,8 +4,7 @@ ghost use Rattle.std.specs.Prelude.{◌≡◌, ◌<◌, ◌++◌, OnOk, length, 
 ghost use Rattle.zw_traces.specs.declared.shard.ShardInput.{ShardInput};
 ghost use Rattle.zw_traces.specs.declared.shard.ShardReply.{ShardReply};
 ghost use Rattle.zs_script.specs.declared.step.Step.{Step};
-ghost use Rattle.zm_text.specs.Playing.{Plays};
-ghost use Rattle.zm_play.specs.Flows.{Any, Asks, Continues, OrStops, queue_of};
+ghost use Rattle.zm_play.specs.Flows.{Any, Asks, Continues, OrStops, PlaysAlone, queue_of};
 
 use ev_base::{Expired, Listed, NoMemory, QueueId};
 use std::alloc::Global;
@@ -17,7 +16,7 @@ use zw_world::World;
 /// collected.
 pub fn tick(world: &mut World, alloc: Global, moment: u64, to: u64) -> Result<Outcome, NoMemory>
     ensures continues { Continues world.old world.new Any
-        (OrStops result (Plays moment (Step.Tick to))) }
+        (OrStops result (PlaysAlone moment (Step.Tick to))) }
     ensures shards { length world.new.shards ≡ length world.old.shards }
 {
     let now = moment.max(to);
