@@ -21,7 +21,7 @@ use Rattle.zs_script.specs.declared.step.Step.TheVariants.{Fetch, Shards}
 use Rattle.zm_text.specs.declared.outcome.Outcome.{Outcome}
 use Rattle.zm_text.specs.declared.outcome.Outcome.TheVariants.{BadQueue, FetchRefused, Fetched, Sharded}
 use Rattle.zm_text.specs.Playing.{Fetching, is_opening_in, with_fetch, with_fetching}
-use Rattle.zm_play.specs.Flows.{Any, Continues, Extends, FetchesOne, IsReady, PlaysAlone, is_alone}
+use Rattle.zm_play.specs.Flows.{Any, Continues, Extends, FetchesOne, IsAt, PlaysAlone, is_alone}
 use Rattle.zm_play.specs.Flows.Extends.{rests, asks_realm}
 use Rattle.rg_flow.specs.Flows.{with_part}
 use Rattle.zm_play.specs.Parts.{Forgets, HasAt, Kept, parts_for}
@@ -31,11 +31,10 @@ use Rattle.zm_play.proofs.Growing.{extends_grows, from_opening}
 use Rattle.zm_play.proofs.Keeping.{forgets_one, kept_but_ended, kept_but_lost, kept_grown, kept_with_part, lines_with, none_kept, same_queue-sym}
 use Rattle.zm_play.proofs.Steps.{traces_of_shards}
 
--- a world that stands is ready
-pub standing_ready : (world : WorldState) (kept : Kept) → IsStanding world kept → IsReady world Any
-standing_ready world kept standing =
-    let stands = standing.2 in
-    (standing.1, record { represents = stands.represents; fed = stands.fed; holds = tt })
+-- where a world stands, it is there
+at_any : {world : WorldState} {kept : Kept} {lines : QueueId → List Fetching} {history : History}
+    → Stands world kept lines history → IsAt world Any history
+at_any stands = record { represents = stands.represents; fed = stands.fed; holds = tt }
 
 -- a world whose history grew stands as it did
 stands_on : (new : WorldState) (kept : Kept) (lines : QueueId → List Fetching)
@@ -55,8 +54,7 @@ module _ (old new : WorldState) (moment : ℕ) (step : Step) where
   pub stops_on : (kept : Kept) (none : NoMemory) → Continues old new Any Extends
       → StepsOn moment step old kept new kept (Err none)
   stops_on kept none goes lines before stands =
-      let there = goes before (record
-      { represents = stands.represents; fed = stands.fed; holds = tt }) in
+      let there = goes before (at_any stands) in
       let now = there.1 in (
         there.0,
         lines,
@@ -71,8 +69,7 @@ module _ (old new : WorldState) (moment : ℕ) (step : Step) where
       → ((history : History) → WorldRepresents new history → Forgets history kept kept')
       → StepsOn moment step old kept new kept' (Ok outcome)
   alone_steps kept kept' alone outcome goes forgets lines before stands =
-      let there = goes before (record
-      { represents = stands.represents; fed = stands.fed; holds = tt }) in
+      let there = goes before (at_any stands) in
       let after = there.0 in
       let now = there.1 in
       let plays = alone_plays moment lines before after step outcome alone now.holds in
@@ -149,8 +146,7 @@ module _ (old new : WorldState) (kept kept' : Kept) (moment : ℕ) (queue : Queu
     pub fetch_is_refused : Continues old new Any (FetchesOne queue.user section None)
         → StepsOn moment (Fetch queue section) old kept new kept (Ok FetchRefused)
     fetch_is_refused goes lines before stands =
-        let there = goes before (record
-        { represents = stands.represents; fed = stands.fed; holds = tt }) in
+        let there = goes before (at_any stands) in
         let now = there.1 in
         let extends = subst (Extends before) (sym now.holds)
         (asks_realm (fetch queue.user section) fetch_refused rests) in (
@@ -165,8 +161,7 @@ module _ (old new : WorldState) (kept kept' : Kept) (moment : ℕ) (queue : Queu
       pub fetch_is_kept : HasAt queue (with_part part (parts_for queue kept)) kept kept'
           → StepsOn moment (Fetch queue section) old kept new kept' (Ok (Fetched section part.at))
       fetch_is_kept has lines before stands =
-          let there = goes before (record
-          { represents = stands.represents; fed = stands.fed; holds = tt }) in
+          let there = goes before (at_any stands) in
           let after = there.0 in
           let now = there.1 in
           let is = now.holds.1 in
@@ -236,8 +231,7 @@ module _ (old new : WorldState) (kept kept' : Kept) (moment : ℕ) (queue : Queu
       pub fetch_is_lost : (none : NoMemory) → HasAt queue [] kept kept'
           → StepsOn moment (Fetch queue section) old kept new kept' (Err none)
       fetch_is_lost none has lines before stands =
-          let there = goes before (record
-          { represents = stands.represents; fed = stands.fed; holds = tt }) in
+          let there = goes before (at_any stands) in
           let after = there.0 in
           let now = there.1 in
           let extends = subst (Extends before) (sym now.holds.1)
