@@ -1,7 +1,5 @@
 -- Sections that are fetched, and shown as one state.
-use Rattle.std.proofs.Common.{◌≡◌, ℕ, ◌+◌, ◌<◌, None, Some, List, [], ◌∷◌, ◌++◌, length, map, fold, take, drop, refl, ap, sym, subst, ◌∙◌, append_assoc}
-use Rattle.std.proofs.lemmas.List.{map-append, take-append-drop, take_more}
-use Rattle.std.proofs.Math.ListN.{get_or}
+use Rattle.std.proofs.Common.{◌≡◌, ℕ, None, Some, List, [], ◌∷◌, ◌++◌, length, map, fold, refl, ap, sym, subst, ◌∙◌}
 use Rattle.ev_base.specs.declared.ids.UserId.{UserId}
 use Rattle.ev_types.specs.declared.section.Section.{Section}
 use Rattle.ev_types.specs.declared.state.State.{State}

@@ -1,5 +1,5 @@
 -- What a flow that fetches in the order of the sections needs next.
-use Rattle.std.proofs.Common.{◌≡◌, ℕ, ◌+◌, ◌-◌, ◌<◌, ◌≤◌, Bool, true, false, cond, ◌&&◌, Option, None, Some, is_none, List, [], ◌∷◌, ◌++◌, length, map, max, refl, ap, sym, subst, ◌∙◌, append-nil, append_assoc, if◌then◌else◌, nat_lt, arith}
+use Rattle.std.proofs.Common.{◌≡◌, ℕ, ◌+◌, ◌-◌, ◌<◌, ◌≤◌, Bool, true, false, cond, ◌&&◌, Option, None, Some, is_none, List, [], ◌∷◌, ◌++◌, length, refl, ap, sym, subst, ◌∙◌, append-nil, append_assoc, if◌then◌else◌, nat_lt, arith}
 use Rattle.std.specs.Prelude.{⊤}
 use Rattle.std.specs.List.{filter, list_any}
 use Rattle.std.proofs.lemmas.Bool.{ltb-false}
@@ -11,7 +11,6 @@ use Rattle.zw_traces.specs.declared.shard.FetchedSection.{FetchedSection}
 use Rattle.zw_traces.specs.FetchedSections.{all_sections, first_missing, part_of}
 use Rattle.rg_flow.specs.FlowValue.{FlowValue}
 use Rattle.rg_flow.specs.Flows.{need_of, need_with, with_part}
-use Rattle.rg_flow.specs.declared.flow.Need.{Need}
 use Rattle.rg_flow.specs.declared.flow.Need.TheVariants as need
 use Rattle.zs_script.specs.Scripts.{AreInOrder}
 use Rattle.zm_text.specs.Playing.{sections}
@@ -95,7 +94,7 @@ next_missing asked (which ∷ list) apart earlier parts rest lack is =
         let own : which ≡ part.section = cc in
         let others : filter (λ other. list_any (same_section other) asked) list ≡ sections parts ++ rest = cc in
         let there : part_of which (earlier ++ part ∷ parts) ≡ Some part = part_of-append which earlier (part ∷ parts) lack.0
-            ∙ ap (λ (same : Bool). if same then Some part else part_of which parts) (ap (same_section which) (sym own) ∙ same_section_itself which) in
+        ∙ ap (λ (same : Bool). if same then Some part else part_of which parts) (ap (same_section which) (sym own) ∙ same_section_itself which) in
         let apart_from : Each (λ other. same_section other part.section ≡ false) list = subst (λ s. Each (λ other. same_section other s ≡ false) list) own apart.0 in
         let more = later (earlier ++ part ∷ []) parts (lack_more part earlier list lack.1 apart_from) others in
         rw there (subst (λ all. first_missing list asked all ≡ first_of rest) (append_assoc earlier (part ∷ []) parts) more)
@@ -119,17 +118,34 @@ pub record AreFirst (asked : List Section) (parts : List FetchedSection) : Type 
   pub split : asked ≡ sections parts ++ rest
 
 all_distinct : AreDistinct all_sections
-all_distinct =
-    ((refl, (refl, (refl, (refl, (refl, (refl, (refl, (refl, tt)))))))),
-    ((refl, (refl, (refl, (refl, (refl, (refl, (refl, tt))))))),
-    ((refl, (refl, (refl, (refl, (refl, (refl, tt)))))),
-    ((refl, (refl, (refl, (refl, (refl, tt))))),
-    ((refl, (refl, (refl, (refl, tt)))),
-    ((refl, (refl, (refl, tt))),
-    ((refl, (refl, tt)),
-    ((refl, tt),
-    (tt,
-    tt)))))))))
+all_distinct = (
+  (refl, (refl, (refl, (refl, (refl, (refl, (refl, (refl, tt)))))))),
+  (
+    (refl, (refl, (refl, (refl, (refl, (refl, (refl, tt))))))),
+    (
+      (refl, (refl, (refl, (refl, (refl, (refl, tt)))))),
+      (
+        (refl, (refl, (refl, (refl, (refl, tt))))),
+        (
+          (refl, (refl, (refl, (refl, tt)))),
+          (
+            (refl, (refl, (refl, tt))),
+            (
+              (refl, (refl, tt)),
+              (
+                (refl, tt),
+                (
+                  tt,
+                  tt,
+                ),
+              ),
+            ),
+          ),
+        ),
+      ),
+    ),
+  ),
+)
 
 module _ (asked : List Section) (parts : List FetchedSection) (in_order : AreInOrder asked) (first : AreFirst asked parts) where
   next_is : first_missing all_sections asked parts ≡ first_of first.rest

@@ -1,4 +1,4 @@
-use Rattle.std.proofs.Common.{List, fold, ap, refl, sym, subst, ◌∙◌}
+use Rattle.std.proofs.Common.{List, fold, ap, sym, subst, ◌∙◌}
 use Rattle.std.proofs.lemmas.Result.{err_from_is_err_and}
 use Rattle.zw_traces.specs.declared.shard.FetchedSection.{FetchedSection}
 use Rattle.rg_flow.specs.FlowValue.{FlowValue}

@@ -1,4 +1,4 @@
-use Rattle.std.proofs.Common.{◌≡◌, ◌∙◌, sym, refl}
+use Rattle.std.proofs.Common.{◌∙◌, sym, refl}
 use Rattle.zm_play.specs.Flows.{least_of}
 use Rattle.zm_play.proofs.NeededOrder.{pushes_none, pushes_to}
 use Rattle.zm_play.proofs.PushRounds.{stays_caught_up}

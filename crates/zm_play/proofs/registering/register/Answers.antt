@@ -1,4 +1,4 @@
-use Rattle.std.proofs.Common.{◌≡◌, ◌∙◌, List, ap, sym, subst}
+use Rattle.std.proofs.Common.{◌∙◌, ap, sym, subst}
 use Rattle.rg_flow.specs.FlowValue.{FlowValue}
 use Rattle.zs_script.specs.Scripts.{AreInOrder}
 use Rattle.zm_play.proofs.RegisterFlow.{register_goes, register_ready, register_refused}
