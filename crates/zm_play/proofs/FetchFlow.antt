@@ -1,7 +1,5 @@
 -- Sections that are fetched, and shown as one state.
-use Rattle.std.proofs.Common.{◌≡◌, ℕ, ◌+◌, ◌<◌, None, Some, List, [], ◌∷◌, ◌++◌, length, map, fold, take, drop, refl, ap, sym, subst, ◌∙◌, append_assoc}
-use Rattle.std.proofs.lemmas.List.{map-append, take-append-drop, take_more}
-use Rattle.std.proofs.Math.ListN.{get_or}
+use Rattle.std.proofs.Common.{◌≡◌, ℕ, None, Some, List, [], ◌∷◌, ◌++◌, length, map, fold, refl, ap, sym, subst, ◌∙◌}
 use Rattle.ev_base.specs.declared.ids.UserId.{UserId}
 use Rattle.ev_types.specs.declared.section.Section.{Section}
 use Rattle.ev_types.specs.declared.state.State.{State}
@@ -28,67 +26,44 @@ fetches_extend user [] before = rests
 fetches_extend user (part ∷ parts) before =
     goes_on_from (asks_realm (Fetch user part.section) (answered part.rows part.at) rests) (fetches_extend user parts (with_fetch user before part))
 
-module _ (user : UserId) (asked : List Section) where
-  -- what was fetched so far
-  pub record Fetched (done : ℕ) (parts : List FetchedSection) (before after : History) : Type 0 where
-    pub in_order : sections parts ≡ take done asked
-    pub is : after ≡ with_fetches user parts before
+-- these were fetched, and nothing else was asked
+abbrev pub FetchesThese : UserId → List FetchedSection → History → History → Type 0
+FetchesThese user parts before after = after ≡ with_fetches user parts before
 
-  pub none_fetched : (world : WorldState) → Continues world world Any (Fetched 0 [])
-  none_fetched world before at =
-      (before, record { represents = at.represents; fed = at.fed; holds = record { in_order = refl; is = refl } })
+pub none_fetched : (user : UserId) (world : WorldState) (parts : List FetchedSection) → parts ≡ [] → Continues world world Any (FetchesThese user parts)
+none_fetched user world parts none before at =
+    (before, record { represents = at.represents; fed = at.fed; holds = sym (ap (λ (list : List FetchedSection). with_fetches user list before) none) })
 
-  module _ (old world new : WorldState) (done : ℕ) (parts : List FetchedSection) (which : Section)
-      (so_far : Continues old world Any (Fetched done parts)) where
-    -- one more is fetched
-    pub fetched_more : (part : FetchedSection) → take (done + 1) asked ≡ take done asked ++ which ∷ []
-        → Continues world new Any (FetchesOne user which (Some part))
-        → Continues old new Any (Fetched (done + 1) (parts ++ part ∷ []))
-    fetched_more part next one = goes_twice so_far one (λ before between at now. tt) (λ before between after at now last. record {
-      in_order = map-append (λ (p : FetchedSection). p.section) parts (part ∷ [])
-          ∙ ap (λ (list : List Section). list ++ part.section ∷ []) now.holds.in_order
-          ∙ ap (λ (s : Section). take done asked ++ s ∷ []) last.holds.0
-          ∙ sym next;
-      is = last.holds.1 ∙ ap (λ (h : History). with_fetch user h part) now.holds.is ∙ sym (fetches_more user parts part before);
-    })
+module _ (user : UserId) (old world : WorldState) (parts : List FetchedSection) (so_far : Continues old world Any (FetchesThese user parts)) (new : WorldState) where
+  -- one more is fetched
+  pub fetched_more : (which : Section) (part : FetchedSection) → Continues world new Any (FetchesOne user which (Some part))
+      → Continues old new Any (FetchesThese user (parts ++ part ∷ []))
+  fetched_more which part one = goes_twice so_far one (λ before between at now. tt) (λ before between after at now last.
+      last.holds.1 ∙ ap (λ (h : History). with_fetch user h part) now.holds ∙ sym (fetches_more user parts part before))
 
-  module _ (old world new : WorldState) (done : ℕ) (parts : List FetchedSection) (so_far : Continues old world Any (Fetched done parts)) where
-    -- or refused
-    pub fetched_none : (other : Section) → done < length asked
-        → Continues world new Any (FetchesOne user (get_or asked done other) None)
-        → Continues old new Any (PlaysRefusedFetch user asked)
-    fetched_none other inside one = goes_twice so_far one (λ before between at now. tt) (λ before between after at now last.
-        let which = get_or asked done other in
-        let rest = drop (done + 1) asked in
-        let split : asked ≡ take done asked ++ which ∷ rest =
-        sym (take-append-drop (done + 1) asked) ∙ ap (λ (front : List Section). front ++ rest) (take_more asked done other inside) ∙ append_assoc (take done asked) (which ∷ []) rest in
-        record {
-          parts = parts;
-          which = which;
-          others = rest;
-          in_order = split ∙ ap (λ (list : List Section). list ++ which ∷ rest) (sym now.holds.in_order);
-          refused = last.holds ∙ ap (with_realm_step (Fetch user which) fetch_refused) now.holds.is;
-        })
+  -- or refused
+  pub fetched_none : (asked : List Section) (which : Section) (others : List Section) → asked ≡ sections parts ++ which ∷ others
+      → Continues world new Any (FetchesOne user which None) → Continues old new Any (PlaysRefusedFetch user asked)
+  fetched_none asked which others split one = goes_twice so_far one (λ before between at now. tt) (λ before between after at now last. record {
+    parts = parts;
+    which = which;
+    others = others;
+    in_order = split;
+    refused = last.holds ∙ ap (with_realm_step (Fetch user which) fetch_refused) now.holds;
+  })
 
-    -- or it stopped
-    pub fetching_stops : Continues world new Any Extends → Continues old new Any Extends
-    fetching_stops stops = goes_twice so_far stops (λ before between at now. tt) (λ before between after at now last.
-        goes_on_from (subst (Extends before) (sym now.holds.is) (fetches_extend user parts before)) last.holds)
+  -- or it stopped
+  pub fetching_stops : Continues world new Any Extends → Continues old new Any Extends
+  fetching_stops stops = goes_twice so_far stops (λ before between at now. tt) (λ before between after at now last.
+      goes_on_from (subst (Extends before) (sym now.holds) (fetches_extend user parts before)) last.holds)
 
-    -- or it stopped after one more
-    pub fetched_stops : (which : Section) (part : FetchedSection) → Continues world new Any (FetchesOne user which (Some part)) → Continues old new Any Extends
-    fetched_stops which part one = fetching_stops (λ before at.
-        let there = one before at in
-        let now = there.1 in
-        (there.0, record { represents = now.represents; fed = now.fed; holds = subst (Extends before) (sym now.holds.1) (asks_realm (Fetch user part.section) (answered part.rows part.at) rests) }))
-
-  -- all are fetched
-  pub fetched_all : (old world : WorldState) (done : ℕ) (parts : List FetchedSection) → take done asked ≡ asked
-      → Continues old world Any (Fetched done parts) → Continues old world Any (FetchesAll user asked (Some parts))
-  fetched_all old world done parts whole so_far before at =
-      let there = so_far before at in
-      let now = there.1 in
-      (there.0, record { represents = now.represents; fed = now.fed; holds = (now.holds.in_order ∙ whole, now.holds.is) })
+-- all are fetched
+pub fetched_all : (user : UserId) (old world : WorldState) (asked : List Section) (parts : List FetchedSection) → sections parts ≡ asked
+    → Continues old world Any (FetchesThese user parts) → Continues old world Any (FetchesAll user asked (Some parts))
+fetched_all user old world asked parts whole so_far before at =
+    let there = so_far before at in
+    let now = there.1 in
+    (there.0, record { represents = now.represents; fed = now.fed; holds = (whole, now.holds) })
 
 -- all sections of a view, shown as a state
 shown_view : (user : UserId) (all : List Accepted) (parts : List FetchedSection) → sections parts ≡ all_sections → AllParts user all parts

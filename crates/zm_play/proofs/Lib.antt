@@ -4,6 +4,7 @@ pub mod FinishSteps
 pub mod Growing
 pub mod Keeping
 pub mod LineSteps
+mod NeededOrder
 pub mod PollSteps
 pub mod PushRounds
 pub mod RegisterFlow

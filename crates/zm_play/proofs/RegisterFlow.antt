@@ -25,6 +25,7 @@ use Rattle.ev_types.specs.OneSection.{received}
 use Rattle.zw_traces.specs.Histories.{History, IsFedBy, IsFedHistory, shard_of, trace_at, with_realm_step, with_shard_step}
 use Rattle.zw_traces.proofs.RealmTraces.{announced_within}
 use Rattle.zw_traces.proofs.Steps.{opened_tells, same_queue_itself}
+use Rattle.rg_flow.specs.FlowValue.{FlowValue}
 use Rattle.zw_world.specs.Worlds.{WorldState, WorldRepresents}
 use Rattle.zw_laws.proofs.Announced.{position_announced}
 use Rattle.zw_laws.proofs.FedSteps.{fed_steps_stay_fed, length-with_step_at}
@@ -34,7 +35,7 @@ use Rattle.zm_text.specs.declared.outcome.Outcome.TheVariants as told
 use Rattle.zm_text.specs.declared.outcome.Outcome.TheVariants.{FetchRefused, Finished, BadQueue}
 use Rattle.zm_text.specs.Playing.{CatchesUp, PlaysRegister, PlaysRefusedFetch, Round, TakesAndPushes, salt, sections, serving, with_fetches, with_opening}
 use Rattle.zm_text.proofs.Fetches.{fetched_parts, fetches_commands, fetches_shards, needed_within, none_missing, were_fetched}
-use Rattle.zm_play.specs.Flows.{Any, Asks, Completes, Continues, Extends, FetchesAll, Finishes, IsAt, IsReady, MayCatchUp, MayComplete, MayDelete, MayFinish, OrStops, Registers, WasOpened, queue_in, trace_of, PlaysAlone}
+use Rattle.zm_play.specs.Flows.{Any, Asks, Completes, Continues, Extends, FetchesAll, Finishes, IsAt, IsReady, MayCatchUp, MayComplete, MayDelete, MayFinish, OrStops, Registers, WasOpened, least_of, queue_in, trace_of, PlaysAlone}
 use Rattle.zm_play.specs.Flows.Extends.{rests, asks_shard}
 use Rattle.zm_play.proofs.FetchFlow.{fetches_extend}
 use Rattle.zm_play.proofs.PushRounds.{catches_go_on, goes_on_from}
@@ -130,66 +131,67 @@ module _ (index : ℕ) (queue : QueueId) where
       let rest = pushes_keep need have goes.2 between reached after below goes.3 at in
       (keeps_more before between after noted rest.0, rest.1, rest.2)
 
-  module _ (parts : List FetchedSection) (have : ℕ) where
+  module _ (flow : FlowValue) (have : ℕ) where
     -- a queue that may be completed may be finished once its shard has caught up
     caught_up_may_finish : (before after : History) (reached : ℕ) → index < length before.shards → IsFedHistory after
-        → MayComplete index queue have parts before → CatchesUp index (commits before.realm) have before reached after
-        → MayFinish index queue parts after
+        → MayComplete index flow queue have before → CatchesUp index (least_of flow) have before reached after
+        → MayFinish index queue flow.parts after
     caught_up_may_finish before after reached below fed may catches =
-        let kept = catches_keep (commits before.realm) have before reached after below catches may.position in
+        let kept = catches_keep (least_of flow) have before reached after below catches may.position in
         let k = kept.0 in
         let reached_is = kept.1 in
         let enough = kept.2 in
-        let fetched = may.fetched in
+        let fetched : needed (sections flow.parts) flow.parts ≡ needed flow.asked flow.parts = ap (λ list. needed list flow.parts) may.whole in
         let many = k.many in
         let trace_fed = trace_is_fed after index fed in
-        let still = fed_steps_stay_fed k.later before.realm (length after.shards) index k.more (trace_of index before) (Finish queue parts)
+        let still = fed_steps_stay_fed k.later before.realm (length after.shards) index k.more (trace_of index before) (Finish queue flow.parts)
         (subst IsLegalRealm k.realm_is fed.realm)
         (subst (λ realm. IsFedBy realm (length after.shards) index (k.more ++ trace_of index before)) k.realm_is
         (subst (λ trace. IsFedBy after.realm (length after.shards) index trace) k.trace_is trace_fed))
         may.may.fed may.may.parted in
         record {
-          asked = k.asked ∙ may.asked;
+          asked = k.asked ∙ may.asked ∙ sym may.whole;
           caught_up = omega arith;
           may = record {
             fed = tt;
-            parted = subst (λ trace. IsPartedStep after.realm (Finish queue parts) trace) (sym k.trace_is)
-                (subst (λ realm. IsPartedStep realm (Finish queue parts) (k.more ++ trace_of index before)) (sym k.realm_is) still.1);
+            parted = subst (λ trace. IsPartedStep after.realm (Finish queue flow.parts) trace) (sym k.trace_is)
+                (subst (λ realm. IsPartedStep realm (Finish queue flow.parts) (k.more ++ trace_of index before)) (sym k.realm_is) still.1);
             served = ap (λ count. shard_of count queue.user) k.many ∙ may.may.served;
           };
         }
 
-    module _ (old mid : WorldState) (need reached : ℕ) (need_is : need ≡ length old.realm.notices) (below : index < length old.shards)
-        (catches : Continues old mid (MayCatchUp index need have) (λ before after. CatchesUp index need have before reached after)) where
-      catches_when : Continues old mid (MayComplete index queue have parts) (λ before after. CatchesUp index (commits before.realm) have before reached after)
-      catches_when before at =
-          let is : need ≡ commits before.realm = need_is ∙ at.represents.realm.count in
-          let there = catches before (record { represents = at.represents; fed = at.fed; holds = record { position = at.holds.position; committed = omega arith } }) in
-          let now = there.1 in
-          (there.0, record { represents = now.represents; fed = now.fed; holds = subst (λ n. CatchesUp index n have before reached there.0) is now.holds })
+    -- a queue that may be completed has a shard that may catch up
+    may_catch_up : (history : History) → MayComplete index flow queue have history → MayCatchUp index (least_of flow) have history
+    may_catch_up history may = record { position = may.position; committed = may.committed }
 
-      caught_up : (before between : History) → IsAt old (MayComplete index queue have parts) before
-          → IsAt mid (λ after. CatchesUp index (commits before.realm) have before reached after) between → MayFinish index queue parts between
+    pub push_ready : (world : WorldState) → IsReady world (MayComplete index flow queue have) → IsReady world (MayCatchUp index (least_of flow) have)
+    push_ready world ready =
+        (ready.0, record { represents = ready.1.represents; fed = ready.1.fed; holds = may_catch_up ready.0 ready.1.holds })
+
+    module _ (old mid : WorldState) (reached : ℕ) (below : index < length old.shards)
+        (catches : Continues old mid (MayCatchUp index (least_of flow) have) (λ before after. CatchesUp index (least_of flow) have before reached after)) where
+      catches_when : Continues old mid (MayComplete index flow queue have) (λ before after. CatchesUp index (least_of flow) have before reached after)
+      catches_when = goes_when may_catch_up catches
+
+      caught_up : (before between : History) → IsAt old (MayComplete index flow queue have) before
+          → IsAt mid (λ after. CatchesUp index (least_of flow) have before reached after) between → MayFinish index queue flow.parts between
       caught_up before between at now =
           let traces = traces_of_shards old before at.represents in
           caught_up_may_finish before between reached (omega arith) now.fed at.holds now.holds
 
-      pub complete_ready : IsReady old (MayComplete index queue have parts) → IsReady mid (MayFinish index queue parts)
+      pub complete_ready : IsReady old (MayComplete index flow queue have) → IsReady mid (MayFinish index queue flow.parts)
       complete_ready ready = goes_ready ready catches_when caught_up
 
-      pub complete_goes : (new : WorldState) (result : Result Outcome NoMemory) → Continues mid new (MayFinish index queue parts) (OrStops result (Finishes index queue parts))
-          → Continues old new (MayComplete index queue have parts) (OrStops result (Completes index queue have parts))
+      pub complete_goes : (new : WorldState) (result : Result Outcome NoMemory) → Continues mid new (MayFinish index queue flow.parts) (OrStops result (Finishes index queue flow.parts))
+          → Continues old new (MayComplete index flow queue have) (OrStops result (Completes index flow queue have))
       complete_goes new (Ok outcome) finishes = goes_twice catches_when finishes caught_up (λ before between after at now last.
           record { position = reached; caught = between; catches_up = now.holds; finishes = last.holds })
       complete_goes new (Err none) stops = goes_twice catches_when stops caught_up (λ before between after at now last.
-          goes_on_from (catches_go_on index (commits before.realm) have before reached between now.holds) last.holds)
+          goes_on_from (catches_go_on index (least_of flow) have before reached between now.holds) last.holds)
 
     -- where the shard did not catch up, for out of memory, nothing is finished
-    pub complete_stops : (old mid : WorldState) (need : ℕ) → need ≡ length old.realm.notices
-        → Continues old mid (MayCatchUp index need have) Extends → Continues old mid (MayComplete index queue have parts) Extends
-    complete_stops old mid need need_is stops before at =
-        let is : need ≡ commits before.realm = need_is ∙ at.represents.realm.count in
-        stops before (record { represents = at.represents; fed = at.fed; holds = record { position = at.holds.position; committed = omega arith } })
+    pub complete_stops : (old mid : WorldState) → Continues old mid (MayCatchUp index (least_of flow) have) Extends → Continues old mid (MayComplete index flow queue have) Extends
+    complete_stops old mid stops = goes_when may_catch_up stops
 
   -- a finish that may be made is answered one of these
   pub finish_answers : (parts : List FetchedSection) (history : History) (reply : ShardReply) → MayFinish index queue parts history
@@ -262,145 +264,167 @@ module _ (index : ℕ) (user : UserId) (asked : List Section) (queue : QueueId) 
           committed = omega arith;
         }
 
-  module _ (old mid : WorldState) (index_is : index ≡ shard_of (length old.shards) user) (below : index < length old.shards) where
-    module _ (parts : List FetchedSection) where
-      -- a queue whose sections were fetched may be completed
-      may_complete : (before between : History) → IsAt old (WasOpened user asked queue have) before
-          → IsAt mid (FetchesAll user asked (Some parts) before) between → MayComplete index queue have parts between
-      may_complete before between at now =
-          let moment = at.holds.0 in
-          let types = at.holds.1 in
-          let is = is_opened old before at.holds.2 moment types at.represents index_is below at.holds.3 at.fed in
-          let fetches = now.holds.1 in
-          let in_order = now.holds.0 in
-          let are = fetched_parts user parts before (subst (λ h. IsLegalRealm h.realm) fetches now.fed.realm) in
-          let same_shards : between.shards ≡ before.shards = ap (λ h. h.shards) fetches ∙ fetches_shards user parts before in
-          let trace_is : trace_of index between ≡ trace_of index before = ap (λ shards. trace_at index shards) same_shards in
-          let account_is : queue_in index queue between ≡ opened_account types asked have moment = ap (account_of pushed_events queue) trace_is ∙ is.account in
-          let same_commands : commands between.realm ≡ commands before.realm = ap (λ h. commands h.realm) fetches ∙ fetches_commands user parts before in
-          let count : commits between.realm ≡ commits before.realm = ap (λ list. length list) same_commands in
-          let within = needed_within user (commands before.realm) (sections parts) parts are in
-          let were = were_fetched user have (commands before.realm) parts before is.committed are in
+module _ (index : ℕ) (user : UserId) (flow : FlowValue) (queue : QueueId) (have : ℕ)
+    (old mid : WorldState) (index_is : index ≡ shard_of (length old.shards) user) (below : index < length old.shards) where
+  module _ (filled : FlowValue) (filled_is : filled ≡ record flow { parts = filled.parts }) where
+    asked_is : filled.asked ≡ flow.asked
+    asked_is = ap (λ (f : FlowValue). f.asked) filled_is
+
+    -- what the flow needs pushed is what a registration catches up to
+    least_is : (before : History) → flow.seen ≡ commits before.realm → least_of filled ≡ max (needed flow.asked filled.parts) (commits before.realm)
+    least_is before seen =
+        let filled_seen : filled.seen ≡ flow.seen = ap (λ (f : FlowValue). f.seen) filled_is in
+        let latest : needed filled.asked filled.parts ≡ needed flow.asked filled.parts = ap (λ (list : List Section). needed list filled.parts) asked_is in
+        omega arith
+
+    -- a queue whose sections were fetched may be completed
+    may_complete : (before between : History) → IsAt old (WasOpened user flow queue have) before
+        → IsAt mid (FetchesAll user flow.asked (Some filled.parts) before) between → MayComplete index filled queue have between
+    may_complete before between at now =
+        let parts = filled.parts in
+        let moment = at.holds.0 in
+        let types = at.holds.1 in
+        let is = is_opened index user flow.asked queue have old before at.holds.2 moment types at.represents index_is below at.holds.3 at.fed in
+        let fetches = now.holds.1 in
+        let in_order = now.holds.0 in
+        let are = fetched_parts user parts before (subst (λ h. IsLegalRealm h.realm) fetches now.fed.realm) in
+        let same_shards : between.shards ≡ before.shards = ap (λ h. h.shards) fetches ∙ fetches_shards user parts before in
+        let trace_is : trace_of index between ≡ trace_of index before = ap (λ shards. trace_at index shards) same_shards in
+        let account_is : queue_in index queue between ≡ opened_account types flow.asked have moment = ap (account_of pushed_events queue) trace_is ∙ is.account in
+        let same_commands : commands between.realm ≡ commands before.realm = ap (λ h. commands h.realm) fetches ∙ fetches_commands user parts before in
+        let count : commits between.realm ≡ commits before.realm = ap (λ list. length list) same_commands in
+        let within = needed_within user (commands before.realm) flow.asked parts are in
+        let were = were_fetched user have (commands before.realm) parts before is.committed are in
+        let least = least_is before at.holds.4 in
+        record {
+          whole = in_order ∙ sym asked_is;
+          position = ap position_of trace_is ∙ is.position;
+          committed = omega arith;
+          asked = ap (λ (a : Account). a.asked) account_is ∙ sym asked_is;
+          may = record {
+            fed = tt;
+            parted = subst (λ (a : Account). WereFetched between.realm queue.user (opening_place a) parts) (sym account_is)
+                (subst (λ (h : History). WereFetched h.realm queue.user (Some have) parts) (sym fetches)
+                (subst (λ (u : UserId). WereFetched (with_fetches user parts before).realm u (Some have) parts) (sym is.own) were));
+            served = ap (λ shards. shard_of (length shards) queue.user) same_shards ∙ ap (shard_of (length before.shards)) is.own ∙ serves old before user index at.represents index_is;
+          };
+        }
+
+    module _ (fetches : Continues old mid Any (FetchesAll user flow.asked (Some filled.parts))) where
+      fetches_when : Continues old mid (WasOpened user flow queue have) (FetchesAll user flow.asked (Some filled.parts))
+      fetches_when = goes_when (λ history opened. tt) fetches
+
+      pub fill_ready : IsReady old (WasOpened user flow queue have) → IsReady mid (MayComplete index filled queue have)
+      fill_ready ready = goes_ready ready fetches_when may_complete
+
+      -- a completed registration is played from its start
+      flow_plays : (before between after start : History) (moment : ℕ) (types : Types) (reply : ShardReply) (position : ℕ) (caught : History)
+          → IsAt old (WasOpened user flow queue have) before → IsAt mid (FetchesAll user flow.asked (Some filled.parts) before) between
+          → before ≡ with_opening moment user types flow.asked queue have start
+          → CatchesUp index (least_of filled) have between position caught
+          → after ≡ with_shard_step index (Finish queue filled.parts) reply caught
+          → PlaysRegister moment user types flow.asked queue reply start after
+      flow_plays before between after start moment types reply position caught at now opens catches asks =
+          let parts = filled.parts in
+          let fetched = now.holds.1 in
+          let may = may_complete before between at now in
+          let at_start = served index user flow.asked queue have old before start moment types at.represents index_is below opens in
+          let traces = traces_of_shards old before at.represents in
+          let many : length between.shards ≡ length before.shards = ap (λ h. length h.shards) fetched ∙ ap (λ shards. length shards) (fetches_shards user parts before) in
+          let kept = catches_keep index queue (least_of filled) have between position caught (omega arith) catches may.position in
+          let at_caught : shard_of (length caught.shards) user ≡ index = ap (λ n. shard_of n user) (kept.0.many ∙ many) ∙ serves old before user index at.represents index_is in
+          let as_before : commits before.realm ≡ commits start.realm = ap (λ h. commits h.realm) opens in
+          let need_is : least_of filled ≡ max (needed flow.asked parts) (commits start.realm) = least_is before at.holds.4 ∙ ap (max (needed flow.asked parts)) as_before in
+          let fetched_there : between ≡ with_fetches user parts (with_opening moment user types flow.asked queue have start) = fetched ∙ ap (with_fetches user parts) opens in
           record {
-            position = ap position_of trace_is ∙ is.position;
-            fetched = omega arith;
-            asked = ap (λ (a : Account). a.asked) account_is ∙ sym in_order;
-            may = record {
-              fed = tt;
-              parted = subst (λ (a : Account). WereFetched between.realm queue.user (opening_place a) parts) (sym account_is)
-                  (subst (λ (h : History). WereFetched h.realm queue.user (Some have) parts) (sym fetches)
-                  (subst (λ (u : UserId). WereFetched (with_fetches user parts before).realm u (Some have) parts) (sym is.own) were));
-              served = ap (λ shards. shard_of (length shards) queue.user) same_shards ∙ ap (shard_of (length before.shards)) is.own ∙ serves old before user index at.represents index_is;
-            };
-          }
-
-      module _ (fetches : Continues old mid Any (FetchesAll user asked (Some parts))) where
-        fetches_when : Continues old mid (WasOpened user asked queue have) (FetchesAll user asked (Some parts))
-        fetches_when = goes_when (λ history opened. tt) fetches
-
-        pub fill_ready : IsReady old (WasOpened user asked queue have) → IsReady mid (MayComplete index queue have parts)
-        fill_ready ready = goes_ready ready fetches_when may_complete
-
-        -- a completed registration is played from its start
-        flow : (before between after start : History) (moment : ℕ) (types : Types) (reply : ShardReply) (position : ℕ) (caught : History)
-            → IsAt old (WasOpened user asked queue have) before → IsAt mid (FetchesAll user asked (Some parts) before) between
-            → before ≡ with_opening moment user types asked queue have start
-            → CatchesUp index (commits between.realm) have between position caught
-            → after ≡ with_shard_step index (Finish queue parts) reply caught
-            → PlaysRegister moment user types asked queue reply start after
-        flow before between after start moment types reply position caught at now opens catches asks =
-            let fetched = now.holds.1 in
-            let may = may_complete before between at now in
-            let are = fetched_parts user parts before (subst (λ h. IsLegalRealm h.realm) fetched now.fed.realm) in
-            let within = needed_within user (commands before.realm) asked parts are in
-            let at_start = served old before start moment types at.represents index_is below opens in
-            let traces = traces_of_shards old before at.represents in
-            let many : length between.shards ≡ length before.shards = ap (λ h. length h.shards) fetched ∙ ap (λ shards. length shards) (fetches_shards user parts before) in
-            let kept = catches_keep index queue (commits between.realm) have between position caught (omega arith) catches may.position in
-            let at_caught : shard_of (length caught.shards) user ≡ index = ap (λ n. shard_of n user) (kept.0.many ∙ many) ∙ serves old before user index at.represents index_is in
-            let as_before : commits before.realm ≡ commits start.realm = ap (λ h. commits h.realm) opens in
-            let as_between : commits between.realm ≡ commits before.realm = ap (λ h. commits h.realm) fetched ∙ ap (λ list. length list) (fetches_commands user parts before) in
-            let need_is : commits between.realm ≡ max (needed asked parts) (commits start.realm) = omega arith in
-            let fetched_there : between ≡ with_fetches user parts (with_opening moment user types asked queue have start) = fetched ∙ ap (with_fetches user parts) opens in
-            record {
-              have = have;
-              parts = parts;
-              position = position;
-              caught = caught;
-              in_order = now.holds.0;
-              catches_up = subst (λ n. CatchesUp n (max (needed asked parts) (commits start.realm)) have (with_fetches user parts (with_opening moment user types asked queue have start)) position caught) (sym at_start)
-                  (subst (λ n. CatchesUp index n have (with_fetches user parts (with_opening moment user types asked queue have start)) position caught) need_is
-                  (subst (λ h. CatchesUp index (commits between.realm) have h position caught) fetched_there catches));
-              finishes = asks ∙ ap (λ n. with_shard_step n (Finish queue parts) reply caught) (sym at_caught);
-            }
-
-        completes_registers : (outcome : Outcome) (before between after : History) → IsAt old (WasOpened user asked queue have) before
-            → IsAt mid (FetchesAll user asked (Some parts) before) between
-            → (position : ℕ) (caught : History) → CatchesUp index (commits between.realm) have between position caught
-            → Finishes index queue parts outcome caught after → Registers user asked queue have outcome before after
-        completes_registers (Finished reached other last state) before between after at now position caught catches finishes = λ moment types start opens.
-            subst (λ q. PlaysRegister moment user types asked q (finished state last reached) start after) (sym finishes.0)
-            (flow before between after start moment types (finished state last reached) position caught at now opens catches finishes.1)
-        completes_registers BadQueue before between after at now position caught catches finishes = λ moment types start opens.
-            (queue, flow before between after start moment types bad_queue position caught at now opens catches finishes)
-        completes_registers outcome before between after at now position caught catches finishes = absurd finishes
-
-        -- where it was completed, the registration is played
-        pub fill_goes : (new : WorldState) (result : Result Outcome NoMemory)
-            → Continues mid new (MayComplete index queue have parts) (OrStops result (Completes index queue have parts))
-            → Continues old new (WasOpened user asked queue have) (OrStops result (Registers user asked queue have))
-        fill_goes new (Ok outcome) goes = goes_twice fetches_when goes may_complete (λ before between after at now last.
-            completes_registers outcome before between after at now last.holds.position last.holds.caught last.holds.catches_up last.holds.finishes)
-        fill_goes new (Err none) stops = goes_twice fetches_when stops may_complete (λ before between after at now last.
-            goes_on_from (subst (λ h. Extends before h) (sym now.holds.1) (fetches_extend user parts before)) last.holds)
-
-    module _ (refuses : Continues old mid Any (FetchesAll user asked None)) where
-      refuses_when : Continues old mid (WasOpened user asked queue have) (FetchesAll user asked None)
-      refuses_when = goes_when (λ history opened. tt) refuses
-
-      may_delete : (before between : History) → IsAt old (WasOpened user asked queue have) before
-          → IsAt mid (FetchesAll user asked None before) between → MayDelete index user queue between
-      may_delete before between at now =
-          let refused = now.holds in
-          let is = is_opened old before at.holds.2 at.holds.0 at.holds.1 at.represents index_is below at.holds.3 at.fed in
-          let same_shards : between.shards ≡ before.shards = ap (λ h. h.shards) refused.refused ∙ fetches_shards user refused.parts before in
-          let trace_is : trace_of index between ≡ trace_of index before = ap (λ shards. trace_at index shards) same_shards in
-          record {
-            held = ap (λ (a : Account). is_held a) (ap (account_of pushed_events queue) trace_is ∙ is.account);
-            own = is.own;
-            may = record { fed = tt; parted = tt; served = ap (λ shards. shard_of (length shards) user) same_shards ∙ serves old before user index at.represents index_is };
-          }
-
-      -- a queue of which a fetch was refused may be deleted
-      pub refused_ready : IsReady old (WasOpened user asked queue have) → IsReady mid (MayDelete index user queue)
-      refused_ready ready = goes_ready ready refuses_when may_delete
-
-      -- where it was deleted, the registration is played
-      pub refused_goes : (new : WorldState) → Continues mid new (MayDelete index user queue) (Asks index (Delete user queue) Deleted)
-          → Continues old new (WasOpened user asked queue have) (Registers user asked queue have FetchRefused)
-      refused_goes new deletes = goes_twice refuses_when deletes may_delete (λ before between after at now last. λ moment types start opens.
-          let refused = now.holds in
-          let same_shards : between.shards ≡ before.shards = ap (λ h. h.shards) refused.refused ∙ fetches_shards user refused.parts before in
-          let at_between : shard_of (length between.shards) user ≡ index = ap (λ shards. shard_of (length shards) user) same_shards ∙ serves old before user index at.represents index_is in
-          record {
-            queue = queue;
             have = have;
-            given_up = between;
-            fetches = subst (λ h. PlaysRefusedFetch user asked h between) opens refused;
-            deletes = last.holds ∙ ap (λ n. with_shard_step n (Delete user queue) Deleted between) (sym at_between);
-          })
+            parts = parts;
+            position = position;
+            caught = caught;
+            in_order = now.holds.0;
+            catches_up = subst (λ n. CatchesUp n (max (needed flow.asked parts) (commits start.realm)) have (with_fetches user parts (with_opening moment user types flow.asked queue have start)) position caught) (sym at_start)
+                (subst (λ n. CatchesUp index n have (with_fetches user parts (with_opening moment user types flow.asked queue have start)) position caught) need_is
+                (subst (λ h. CatchesUp index (least_of filled) have h position caught) fetched_there catches));
+            finishes = asks ∙ ap (λ n. with_shard_step n (Finish queue parts) reply caught) (sym at_caught);
+          }
 
-module _ (old mid : WorldState) (moment : ℕ) (user : UserId) (types : Types) (asked : List Section) (queue : QueueId) (have : ℕ)
+      completes_registers : (outcome : Outcome) (before between after : History) → IsAt old (WasOpened user flow queue have) before
+          → IsAt mid (FetchesAll user flow.asked (Some filled.parts) before) between
+          → (position : ℕ) (caught : History) → CatchesUp index (least_of filled) have between position caught
+          → Finishes index queue filled.parts outcome caught after → Registers user flow.asked queue have outcome before after
+      completes_registers (Finished reached other last state) before between after at now position caught catches finishes = λ moment types start opens.
+          subst (λ q. PlaysRegister moment user types flow.asked q (finished state last reached) start after) (sym finishes.0)
+          (flow_plays before between after start moment types (finished state last reached) position caught at now opens catches finishes.1)
+      completes_registers BadQueue before between after at now position caught catches finishes = λ moment types start opens.
+          (queue, flow_plays before between after start moment types bad_queue position caught at now opens catches finishes)
+      completes_registers outcome before between after at now position caught catches finishes = absurd finishes
+
+      -- where it was completed, the registration is played
+      pub fill_goes : (new : WorldState) (result : Result Outcome NoMemory)
+          → Continues mid new (MayComplete index filled queue have) (OrStops result (Completes index filled queue have))
+          → Continues old new (WasOpened user flow queue have) (OrStops result (Registers user flow.asked queue have))
+      fill_goes new (Ok outcome) goes = goes_twice fetches_when goes may_complete (λ before between after at now last.
+          completes_registers outcome before between after at now last.holds.position last.holds.caught last.holds.catches_up last.holds.finishes)
+      fill_goes new (Err none) stops = goes_twice fetches_when stops may_complete (λ before between after at now last.
+          goes_on_from (subst (λ h. Extends before h) (sym now.holds.1) (fetches_extend user filled.parts before)) last.holds)
+
+  module _ (refuses : Continues old mid Any (FetchesAll user flow.asked None)) where
+    refuses_when : Continues old mid (WasOpened user flow queue have) (FetchesAll user flow.asked None)
+    refuses_when = goes_when (λ history opened. tt) refuses
+
+    may_delete : (before between : History) → IsAt old (WasOpened user flow queue have) before
+        → IsAt mid (FetchesAll user flow.asked None before) between → MayDelete index user queue between
+    may_delete before between at now =
+        let refused = now.holds in
+        let is = is_opened index user flow.asked queue have old before at.holds.2 at.holds.0 at.holds.1 at.represents index_is below at.holds.3 at.fed in
+        let same_shards : between.shards ≡ before.shards = ap (λ h. h.shards) refused.refused ∙ fetches_shards user refused.parts before in
+        let trace_is : trace_of index between ≡ trace_of index before = ap (λ shards. trace_at index shards) same_shards in
+        record {
+          held = ap (λ (a : Account). is_held a) (ap (account_of pushed_events queue) trace_is ∙ is.account);
+          own = is.own;
+          may = record { fed = tt; parted = tt; served = ap (λ shards. shard_of (length shards) user) same_shards ∙ serves old before user index at.represents index_is };
+        }
+
+    -- a queue of which a fetch was refused may be deleted
+    pub refused_ready : IsReady old (WasOpened user flow queue have) → IsReady mid (MayDelete index user queue)
+    refused_ready ready = goes_ready ready refuses_when may_delete
+
+    -- where it was deleted, the registration is played
+    pub refused_goes : (new : WorldState) → Continues mid new (MayDelete index user queue) (Asks index (Delete user queue) Deleted)
+        → Continues old new (WasOpened user flow queue have) (Registers user flow.asked queue have FetchRefused)
+    refused_goes new deletes = goes_twice refuses_when deletes may_delete (λ before between after at now last. λ moment types start opens.
+        let refused = now.holds in
+        let same_shards : between.shards ≡ before.shards = ap (λ h. h.shards) refused.refused ∙ fetches_shards user refused.parts before in
+        let at_between : shard_of (length between.shards) user ≡ index = ap (λ shards. shard_of (length shards) user) same_shards ∙ serves old before user index at.represents index_is in
+        record {
+          queue = queue;
+          have = have;
+          given_up = between;
+          fetches = subst (λ h. PlaysRefusedFetch user flow.asked h between) opens refused;
+          deletes = last.holds ∙ ap (λ n. with_shard_step n (Delete user queue) Deleted between) (sym at_between);
+        })
+
+module _ (old mid : WorldState) (moment : ℕ) (user : UserId) (types : Types) (asked : List Section) (flow : FlowValue) (queue : QueueId) (have : ℕ)
+    (asked_is : flow.asked ≡ asked) (seen_is : flow.seen ≡ length old.realm.notices)
     (opens : Continues old mid Any (λ before after. after ≡ with_opening moment user types asked queue have before)) where
+  opened_so : (before between : History) → between ≡ with_opening moment user types asked queue have before → between ≡ with_opening moment user types flow.asked queue have before
+  opened_so before between opened = opened ∙ ap (λ (list : List Section). with_opening moment user types list queue have before) (sym asked_is)
+
+  was_opened : (before between : History) → IsAt old Any before → IsAt mid (λ after. after ≡ with_opening moment user types asked queue have before) between
+      → WasOpened user flow queue have between
+  was_opened before between at now =
+      (moment, types, before, opened_so before between now.holds, seen_is ∙ at.represents.realm.count ∙ sym (ap (λ h. commits h.realm) now.holds))
+
   -- a queue that was opened may be filled
-  pub register_ready : IsReady old Any → IsReady mid (WasOpened user asked queue have)
-  register_ready ready = goes_ready ready opens (λ before after at now. (moment, types, before, now.holds))
+  pub register_ready : IsReady old Any → IsReady mid (WasOpened user flow queue have)
+  register_ready ready = goes_ready ready opens was_opened
 
   -- where it was filled, the registration is played
-  pub register_goes : (new : WorldState) (result : Result Outcome NoMemory) → Continues mid new (WasOpened user asked queue have) (OrStops result (Registers user asked queue have))
+  pub register_goes : (new : WorldState) (result : Result Outcome NoMemory) → Continues mid new (WasOpened user flow queue have) (OrStops result (Registers user flow.asked queue have))
       → Continues old new Any (OrStops result (PlaysAlone moment (Register user types asked)))
-  register_goes new (Ok outcome) goes = goes_twice opens goes (λ before between at now. (moment, types, before, now.holds)) (λ before between after at now last. last.holds moment types before now.holds)
-  register_goes new (Err none) stops = goes_twice opens stops (λ before between at now. (moment, types, before, now.holds)) (λ before between after at now last.
+  register_goes new (Ok outcome) goes = goes_twice opens goes was_opened (λ before between after at now last.
+      subst (λ list. PlaysAlone moment (Register user types list) outcome before after) asked_is (last.holds moment types before (opened_so before between now.holds)))
+  register_goes new (Err none) stops = goes_twice opens stops was_opened (λ before between after at now last.
       goes_on_from (subst (λ h. Extends before h) (sym now.holds) (asks_shard (serving user before) (Start user salt moment types asked) (Opened queue have) rests)) last.holds)
 
 -- where the queue wasn't opened, the registration is refused as the opening is

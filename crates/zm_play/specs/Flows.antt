@@ -1,5 +1,5 @@
 -- What a part of a step does to the histories that a world represents.
-use Rattle.std.specs.Prelude.{◌≡◌, ℕ, ◌+◌, ◌≤◌, Bool, true, false, [], Option, None, Some, List, Result, Ok, Err}
+use Rattle.std.specs.Prelude.{◌≡◌, ℕ, ◌+◌, ◌≤◌, max, Bool, true, false, [], Option, None, Some, List, Result, Ok, Err}
 use Rattle.ev_base.specs.declared.ids.UserId.{UserId}
 use Rattle.ev_base.specs.declared.ids.QueueId.{QueueId}
 use Rattle.ev_base.specs.declared.expired.Expired.{Expired}
@@ -23,6 +23,7 @@ use Rattle.zw_traces.specs.RealmFeeds.{AreAnnounced}
 use Rattle.zw_traces.specs.Account.{Account, is_held}
 use Rattle.zw_traces.specs.ShardTrace.{account_of, position_of, pushed_events}
 use Rattle.zw_traces.specs.Histories.{History, IsFedHistory, MayBeAsked, trace_at, with_realm_step, with_shard_step}
+use Rattle.rg_flow.specs.FlowValue.{FlowValue}
 use Rattle.zw_world.specs.Worlds.{WorldState, WorldRepresents}
 use Rattle.zs_script.specs.declared.step.Step.{Step}
 use Rattle.zs_script.specs.declared.step.Step.TheVariants.{Fetch as FetchPart, Finish, Register, Shards}
@@ -87,6 +88,15 @@ abbrev pub FetchesAll : UserId → List Section → Option (List FetchedSection)
 FetchesAll user asked (Some parts) before after = (sections parts ≡ asked) × (after ≡ with_fetches user parts before)
 FetchesAll user asked None before after = PlaysRefusedFetch user asked before after
 
+-- all sections that are asked for are fetched, and these are the parts, or one of them is refused
+abbrev pub FetchesNeeded : UserId → List Section → List FetchedSection → Bool → History → History → Type 0
+FetchesNeeded user asked parts true = FetchesAll user asked (Some parts)
+FetchesNeeded user asked parts false = FetchesAll user asked None
+
+-- how many notices a flow needs pushed: as many as its user has seen, and as each section was fetched at
+abbrev pub least_of : FlowValue → ℕ
+least_of flow = max flow.seen (needed flow.asked flow.parts)
+
 -- the shard stands at a position, and this many notices were announced
 pub record IsDue (index need have : ℕ) (history : History) : Type 0 where
   pub position : position_of (trace_of index history) ≡ have
@@ -131,10 +141,11 @@ PushesTaken index first notices outcome before after = ⊥
 abbrev pub TakesUpTo : ℕ → ℕ → ℕ → ℕ → History → History → Type 0
 TakesUpTo index need have reached before after = (rounds : List Round) × TakesAndPushes index need have rounds before reached after
 
--- the queue was opened for the user in the latest step, to be finished with these sections
-abbrev pub WasOpened : UserId → List Section → QueueId → ℕ → History → Type 0
-WasOpened user asked queue have history =
-    (moment : ℕ) × (types : Types) × (start : History) × (history ≡ with_opening moment user types asked queue have start)
+-- the queue was opened for the user in the latest step, to be finished with the sections of this flow, and all commits were seen
+abbrev pub WasOpened : UserId → FlowValue → QueueId → ℕ → History → Type 0
+WasOpened user flow queue have history =
+    (moment : ℕ) × (types : Types) × (start : History)
+    × (history ≡ with_opening moment user types flow.asked queue have start) × (flow.seen ≡ commits history.realm)
 
 -- so the registration is played from where the queue was opened
 abbrev pub Registers : UserId → List Section → QueueId → ℕ → Outcome → History → History → Type 0
@@ -142,12 +153,13 @@ Registers user asked queue have outcome before after =
     (moment : ℕ) (types : Types) (start : History) → (before ≡ with_opening moment user types asked queue have start)
     → PlaysAlone moment (Register user types asked) outcome start after
 
--- the queue is known, and once its shard has caught up may be finished with these sections
-pub record MayComplete (index : ℕ) (queue : QueueId) (have : ℕ) (parts : List FetchedSection) (history : History) : Type 0 where
+-- the queue is known, and once its shard has caught up may be finished with the sections of this flow
+pub record MayComplete (index : ℕ) (flow : FlowValue) (queue : QueueId) (have : ℕ) (history : History) : Type 0 where
+  pub whole : sections flow.parts ≡ flow.asked
   pub position : position_of (trace_of index history) ≡ have
-  pub fetched : needed (sections parts) parts ≤ commits history.realm
-  pub asked : (queue_in index queue history).asked ≡ sections parts
-  pub may : MayBeAsked history index (shard.Finish queue parts)
+  pub committed : least_of flow ≤ commits history.realm
+  pub asked : (queue_in index queue history).asked ≡ flow.asked
+  pub may : MayBeAsked history index (shard.Finish queue flow.parts)
 
 -- the queue is finished with these sections, or was ended meanwhile
 abbrev pub Finishes : ℕ → QueueId → List FetchedSection → Outcome → History → History → Type 0
@@ -156,12 +168,12 @@ Finishes index queue parts (Finished reached other last state) before after =
 Finishes index queue parts BadQueue before after = Asks index (shard.Finish queue parts) shard_reply.BadQueue before after
 Finishes index queue parts outcome before after = ⊥
 
--- the shard catches up to all commits, and finishes the queue with these sections
-pub record Completes (index : ℕ) (queue : QueueId) (have : ℕ) (parts : List FetchedSection) (outcome : Outcome) (before after : History) : Type 0 where
+-- the shard catches up to what the flow needs, and finishes the queue with its sections
+pub record Completes (index : ℕ) (flow : FlowValue) (queue : QueueId) (have : ℕ) (outcome : Outcome) (before after : History) : Type 0 where
   pub position : ℕ
   pub caught : History
-  pub catches_up : CatchesUp index (commits before.realm) have before position caught
-  pub finishes : Finishes index queue parts outcome caught after
+  pub catches_up : CatchesUp index (least_of flow) have before position caught
+  pub finishes : Finishes index queue flow.parts outcome caught after
 
 -- a finish with these sections is neither early nor lacks one
 pub record MayFinish (index : ℕ) (queue : QueueId) (parts : List FetchedSection) (history : History) : Type 0 where

@@ -1,12 +1,14 @@
 //! Fetching sections of a user's view.
 
-ghost use Rattle.std.specs.Prelude.{◌≡◌, ℕ, length};
+ghost use Rattle.std.specs.Prelude.{◌≡◌, ℕ, [], IfOk, IfSome, length};
+ghost use Rattle.zs_script.specs.Scripts.{AreInOrder};
 ghost use Rattle.zs_script.specs.declared.step.Step.{Step};
-ghost use Rattle.zm_play.specs.Flows.{Any, Continues, FetchesAll, FetchesOne, IsReady, OrStops, PlaysAlone};
+ghost use Rattle.zm_play.specs.Flows.{Any, Continues, FetchesNeeded, FetchesOne, IsReady, OrStops, PlaysAlone};
 
 use crate::states::state_of;
-use ev_base::{Listed, NoMemory, UserId};
+use ev_base::{NoMemory, UserId};
 use ev_types::Section;
+use rg_flow::{Flow, Need};
 use std::alloc::Global;
 use zm_text::Outcome;
 use zw_traces::{FetchedSection, RealmInput, RealmReply};
@@ -32,34 +34,40 @@ pub fn view(world: &mut World, alloc: Global, user: UserId) -> Result<Outcome, N
         (OrStops result (PlaysAlone moment (Step.View user))) }
     ensures shards { length world.new.shards ≡ length world.old.shards }
 {
-    match fetch(world, alloc, user, &ALL_SECTIONS)? {
-        Some(parts) => Ok(Outcome::Viewed {
+    let mut flow = Flow::start(alloc, &ALL_SECTIONS, 0)?;
+    let all = fetch_needed(world, alloc, user, &mut flow, 0)?;
+    if all {
+        return Ok(Outcome::Viewed {
             commits: world.commits(),
-            state: state_of(parts.into_vec()),
-        }),
-        None => Ok(Outcome::FetchRefused),
+            state: state_of(flow.into_parts().into_vec()),
+        });
     }
+    Ok(Outcome::FetchRefused)
 }
 
-/// Fetches sections in this order. There are none where the realm refuses one, since the user isn't
-/// active.
-pub fn fetch(
+/// Fetches the sections that a flow needs, one after the other, and tells whether there are all. The
+/// realm refuses one where the user isn't active.
+pub fn fetch_needed(
     world: &mut World,
     alloc: Global,
     user: UserId,
-    asked: &[Section],
-) -> Result<Option<Listed<FetchedSection>>, NoMemory>
-    ensures continues { Continues world.old world.new Any (OrStops result (FetchesAll user asked.now)) }
+    flow: &mut Flow,
+    have: u64,
+) -> Result<bool, NoMemory>
+    requires in_order { AreInOrder flow.old.asked }
+    requires none { flow.old.parts ≡ [] }
+    ensures same { flow.new ≡ record flow.old { parts = flow.new.parts } }
+    ensures continues { Continues world.old world.new Any
+        (OrStops result (FetchesNeeded user flow.old.asked flow.new.parts)) }
     ensures shards { length world.new.shards ≡ length world.old.shards }
 {
-    let mut parts = Vec::new(alloc);
-    for section in asked {
-        match fetch_one(world, alloc, user, *section)? {
-            Some(part) => parts.push(part)?,
-            None => return Ok(None),
+    while let Need::Fetch(section) = flow.need(have) {
+        match fetch_one(world, alloc, user, section)? {
+            Some(part) => flow.put(part),
+            None => return Ok(false),
         }
     }
-    Ok(Some(Listed::from_vec(parts)))
+    Ok(true)
 }
 
 /// Fetches a section. There is none where the realm refuses it.
@@ -69,6 +77,7 @@ pub fn fetch_one(
     user: UserId,
     section: Section,
 ) -> Result<Option<FetchedSection>, NoMemory>
+    ensures section { IfOk result (λ found. IfSome found (λ part. part.section ≡ section)) }
     ensures continues { Continues world.old world.new Any (OrStops result (FetchesOne user section)) }
     ensures shards { length world.new.shards ≡ length world.old.shards }
 {

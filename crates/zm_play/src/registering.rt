@@ -1,17 +1,19 @@
 //! The flow of a registration.
 
-ghost use Rattle.std.specs.Prelude.{◌≡◌, ◌<◌, IfOk, length};
+ghost use Rattle.std.specs.Prelude.{◌≡◌, ◌<◌, [], length};
+ghost use Rattle.zs_script.specs.Scripts.{AreInOrder};
 ghost use Rattle.zs_script.specs.declared.step.Step.{Step};
-ghost use Rattle.zw_traces.specs.Histories.{shard_of};
+ghost use Rattle.zm_text.specs.Playing.{CatchesUp, sections};
 ghost use Rattle.zw_traces.specs.declared.shard.ShardInput.{ShardInput};
 ghost use Rattle.zw_traces.specs.declared.shard.ShardReply.{ShardReply};
-ghost use Rattle.zm_play.specs.Flows.{Any, Asks, Completes, Continues, Finishes, IsReady, MayComplete, MayDelete, MayFinish, OrStops, PlaysAlone, Registers, WasOpened};
+ghost use Rattle.zm_play.specs.Flows.{Any, Asks, Completes, Continues, Finishes, IsReady, MayCatchUp, MayComplete, MayDelete, MayFinish, OrStops, PlaysAlone, Registers, WasOpened, least_of};
 
-use crate::fetching::fetch;
+use crate::fetching::fetch_needed;
 use crate::pushing::catch_up;
 use crate::queue_lines::open_queue;
 use ev_base::{Listed, NoMemory, QueueId, UserId};
 use ev_types::{Section, Types};
+use rg_flow::{Flow, Need};
 use std::alloc::Global;
 use zm_text::Outcome;
 use zw_traces::{FetchedSection, ShardInput, ShardReply};
@@ -26,70 +28,83 @@ pub fn register(
     types: Types,
     asked: Listed<Section>,
 ) -> Result<Outcome, NoMemory>
+    requires in_order { AreInOrder asked }
     requires ready { IsReady world.old Any }
     ensures continues { Continues world.old world.new Any
         (OrStops result (PlaysAlone moment (Step.Register user types asked))) }
     ensures shards { length world.new.shards ≡ length world.old.shards }
 {
-    let sections = copied(alloc, asked.as_slice())?;
+    let flow = Flow::start(alloc, asked.as_slice(), world.commits())?;
     match open_queue(world, alloc, moment, user, types, asked)? {
-        Outcome::Opened { queue, position } => {
-            fill(world, alloc, user, &sections, queue, position)
-        }
+        Outcome::Opened { queue, position } => fill(world, alloc, user, flow, queue, position),
         refused => Ok(refused),
     }
 }
 
-fn copied(alloc: Global, sections: &[Section]) -> Result<Vec<Section>, NoMemory>
-    ensures { IfOk result (λ copy. copy.items ≡ sections.now) }
-{
-    Ok(sections.to_vec(alloc)?)
-}
-
-/// Fetches the sections for an opened queue and finishes it. Where a fetch is refused, the queue is
-/// deleted.
+/// Fetches the sections that the flow of an opened queue needs, and finishes the queue. Where a fetch
+/// is refused, the queue is deleted.
 fn fill(
     world: &mut World,
     alloc: Global,
     user: UserId,
-    asked: &[Section],
+    mut flow: Flow,
     queue: QueueId,
     have: u64,
 ) -> Result<Outcome, NoMemory>
-    requires ready { IsReady world.old (WasOpened user asked.now queue have) }
-    ensures continues { Continues world.old world.new (WasOpened user asked.now queue have)
-        (OrStops result (Registers user asked.now queue have)) }
+    requires in_order { AreInOrder flow.asked }
+    requires none { flow.parts ≡ [] }
+    requires ready { IsReady world.old (WasOpened user flow queue have) }
+    ensures continues { Continues world.old world.new (WasOpened user flow queue have)
+        (OrStops result (Registers user flow.asked queue have)) }
     ensures shards { length world.new.shards ≡ length world.old.shards }
 {
     let shard = world.serving(user);
-    match fetch(world, alloc, user, asked)? {
-        Some(parts) => complete(world, alloc, shard, queue, have, parts),
-        None => {
-            delete(world, alloc, shard, user, queue);
-            Ok(Outcome::FetchRefused)
-        }
+    let all = fetch_needed(world, alloc, user, &mut flow, have)?;
+    if all {
+        return complete(world, alloc, shard, flow, queue, have);
     }
+    delete(world, alloc, shard, user, queue);
+    Ok(Outcome::FetchRefused)
 }
 
-/// Catches a shard up to all commits, which are those at the start of the registration and the latest
-/// that a section was fetched at, and finishes the queue with the sections.
+/// Brings a shard the notices that a flow needs, and finishes the queue with its sections.
 fn complete(
     world: &mut World,
     alloc: Global,
     shard: u32,
+    flow: Flow,
     queue: QueueId,
     have: u64,
-    parts: Listed<FetchedSection>,
 ) -> Result<Outcome, NoMemory>
     requires index { shard < length world.old.shards }
-    requires ready { IsReady world.old (MayComplete shard queue have parts) }
-    ensures continues { Continues world.old world.new (MayComplete shard queue have parts)
-        (OrStops result (Completes shard queue have parts)) }
+    requires ready { IsReady world.old (MayComplete shard flow queue have) }
+    ensures continues { Continues world.old world.new (MayComplete shard flow queue have)
+        (OrStops result (Completes shard flow queue have)) }
     ensures shards { length world.new.shards ≡ length world.old.shards }
 {
-    let need = world.commits();
-    catch_up(world, alloc, shard, need, have)?;
-    finish(world, alloc, shard, queue, parts)
+    push_needed(world, alloc, shard, &flow, have)?;
+    finish(world, alloc, shard, queue, flow.into_parts())
+}
+
+/// Brings a shard at a position the notices that a flow needs, which has its sections.
+fn push_needed(
+    world: &mut World,
+    alloc: Global,
+    shard: u32,
+    flow: &Flow,
+    have: u64,
+) -> Result<u64, NoMemory>
+    requires index { shard < length world.old.shards }
+    requires whole { sections flow.now.parts ≡ flow.now.asked }
+    requires ready { IsReady world.old (MayCatchUp shard (least_of flow.now) have) }
+    ensures continues { Continues world.old world.new (MayCatchUp shard (least_of flow.now) have)
+        (OrStops result (λ reached before after. CatchesUp shard (least_of flow.now) have before reached after)) }
+    ensures shards { length world.new.shards ≡ length world.old.shards }
+{
+    match flow.need(have) {
+        Need::PushTo(least) => catch_up(world, alloc, shard, least, have),
+        _ => Ok(have),
+    }
 }
 
 /// Finishes an opening queue of a shard that has caught up. Among the notices may have been one that

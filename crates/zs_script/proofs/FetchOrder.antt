@@ -42,7 +42,7 @@ named_in_order : (names : List (List ℕ)) → AreInOrder (sections_by names)
 unfolding sections_by
 named_in_order names = passing_in_order (λ section. list_any (λ name. bytes_eq name (fetch_name section)) names)
 
-all_in_order : AreInOrder all_sections
+pub all_in_order : AreInOrder all_sections
 all_in_order = passing_in_order (λ which. true)
 
 none_in_order : AreInOrder []

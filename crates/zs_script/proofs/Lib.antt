@@ -1,6 +1,6 @@
 pub mod Combined
 pub mod Failing
-mod FetchOrder
+pub mod FetchOrder
 pub mod Meanings
 pub mod Playable
 pub mod StepAnswers
