@@ -1,0 +1,3 @@
+pub mod UserRows
+pub mod SightShift
+pub mod Still

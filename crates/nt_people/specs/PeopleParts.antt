@@ -1,0 +1,98 @@
+-- The parts of the notice of a change of people.
+use Rattle.std.specs.Prelude.{ℕ, Bool, true, false, not, ◌&&◌, if◌then◌else◌, List, [], ◌∷◌, ◌++◌, map, flat_map, Option, None, Some, option_map}
+use Rattle.std.proofs.Math.Bool.{beq}
+use Rattle.ev_base.specs.declared.ids.UserId.{UserId}
+use Rattle.ev_base.specs.declared.ids.StreamId.{StreamId}
+use Rattle.ev_base.specs.declared.ids.MessageId.{MessageId}
+use Rattle.ev_base.specs.declared.kinds.Role.{Role}
+use Rattle.ev_base.specs.declared.place.Place.{Place}
+use Rattle.ev_base.specs.declared.place.Place.TheVariants as place
+use Rattle.ev_rows.specs.Rows.{keys_of, made_of, one_of, only_if, sift}
+use Rattle.ev_types.specs.Changes.{arrivals, full_message, realm_changes, user_changes}
+use Rattle.ev_types.specs.declared.event.Event.{Event}
+use Rattle.ev_types.specs.declared.event.Event.TheVariants as event
+use Rattle.ev_types.specs.declared.event.UserField.TheVariants as user_field
+use Rattle.ev_types.specs.declared.notice.Audience.TheVariants.{Everyone, Only}
+use Rattle.ev_types.specs.declared.notice.Part.{Part}
+use Rattle.ev_types.specs.declared.rows.ShownMessage.{ShownMessage}
+use Rattle.ev_types.specs.declared.rows.ShownStream.{ShownStream}
+use Rattle.nt_rules.specs.Parts.{to, viewers}
+use Rattle.zr_types.specs.declared.command.PeopleCommand.{PeopleCommand}
+use Rattle.zr_types.specs.declared.command.PeopleCommand.TheVariants as of_people
+use Rattle.zr_types.specs.declared.people.User.{User}
+use Rattle.zr_types.specs.declared.streams.Stream.{Stream}
+use Rattle.zr_types.specs.Effects.{next_user, realm_with}
+use Rattle.zr_types.specs.Tables.{Tables, receipt_of, stream_at, user_at}
+use Rattle.zr_types.specs.Visibility.{is_subscribed, sees_by}
+use Rattle.zw_views.specs.Views.{peers, shown_message, shown_realm, shown_stream, shown_user}
+
+module _ (tables : Tables) (user : UserId) where
+  -- the user sees the stream in a new role and didn't see it in an old one. Without a role the user isn't there
+  abbrev pub opens : Option Role → Option Role → StreamId → Bool
+  opens old new stream =
+      sees_by new (stream_at tables stream) (is_subscribed tables user stream)
+      && not (sees_by old (stream_at tables stream) (is_subscribed tables user stream))
+
+  -- these streams
+  abbrev pub opened : Option Role → Option Role → List (StreamId × ShownStream)
+  opened old new = sift (λ row. only_if (opens old new row.0) (Some (shown_stream row.1))) tables.streams
+
+  abbrev pub opens_place : Option Role → Option Role → Place → Bool
+  opens_place old new (place.Stream stream topic) = opens old new stream
+  opens_place old new (place.Direct recipients) = false
+
+  -- and the messages there that the user has a receipt for
+  abbrev pub arrived : Option Role → Option Role → List (MessageId × ShownMessage)
+  arrived old new =
+      sift (λ row. only_if (opens_place old new row.1.place) (option_map (shown_message row.1) (receipt_of tables user row.0))) tables.messages
+
+  -- what the user is told of the streams that come and go with a role, and of their subscribers
+  abbrev pub stream_sight : Option Role → Option Role → List Event
+  stream_sight old new =
+      one_of event.StreamCreate (opened old new)
+      ++ one_of event.StreamDelete (keys_of (opened new old))
+      ++ flat_map (λ row. one_of (event.PeerAdd row.0) (keys_of (peers tables row.0))) (opened old new)
+
+  -- and of their messages
+  abbrev pub message_sight : Option Role → Option Role → List Event
+  message_sight old new =
+      arrivals (map (full_message tables.reactions) (arrived old new))
+      ++ one_of event.MessageGone (keys_of (arrived new old))
+
+  -- what everyone is told of a change of the user's row
+  abbrev pub row_parts : (User → User) → User → List Part
+  row_parts change row = to Everyone (user_changes (user, (shown_user row, shown_user (change row))))
+
+  abbrev pub change_parts : (User → User) → List Part
+  change_parts change = made_of (row_parts change) (user_at tables user)
+
+  -- what those who see a stream of the user's are told where the user becomes active, or no longer is
+  abbrev pub peer_part : Bool → StreamId × Stream → List Part
+  peer_part is_active row =
+      if is_subscribed tables user row.0
+      then to (Only (keys_of (viewers tables row.0))) ((if is_active then event.PeerAdd row.0 (user ∷ []) else event.PeerRemove row.0 (user ∷ [])) ∷ [])
+      else []
+
+  abbrev pub active_parts : Bool → User → List Part
+  active_parts is_active row =
+      if beq row.is_active is_active
+      then []
+      else to Everyone (event.UserChange user (user_field.IsActive is_active) ∷ []) ++ flat_map (peer_part is_active) tables.streams
+
+  -- what everyone, and the user, is told of a new role
+  abbrev pub role_parts : Role → User → List Part
+  role_parts role row =
+      row_parts (λ row. record row { role = role }) row
+      ++ to (Only (user ∷ [])) (stream_sight (Some row.role) (Some role) ++ message_sight (Some row.role) (Some role))
+
+-- the parts of each command's notice
+abbrev pub people_parts : Tables → PeopleCommand → List Part
+people_parts tables (of_people.RealmUpdate property value) =
+    to Everyone (realm_changes (shown_realm tables.realm) (shown_realm (realm_with property value tables.realm)))
+people_parts tables (of_people.UserAdd email full_name role key) =
+    to Everyone (event.UserAdd (next_user tables) (record { email = email; full_name = full_name; role = role; is_active = true }) ∷ [])
+    ++ to (Only (next_user tables ∷ [])) (stream_sight tables (next_user tables) None (Some role))
+people_parts tables (of_people.UserUpdate user full_name) = change_parts tables user (λ row. record row { full_name = full_name })
+people_parts tables (of_people.UserRole user role) = made_of (role_parts tables user role) (user_at tables user)
+people_parts tables (of_people.UserDeactivate user) = made_of (active_parts tables user false) (user_at tables user)
+people_parts tables (of_people.UserReactivate user) = made_of (active_parts tables user true) (user_at tables user)
