@@ -1,3 +1,5 @@
 pub mod UserRows
 pub mod SightShift
 pub mod Still
+pub mod Changed
+pub mod Added

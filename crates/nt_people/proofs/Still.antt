@@ -27,7 +27,7 @@ module _ (tables : Tables) (user : UserId) (role : Option Role) where
   never true = refl
   never false = refl
 
-  nothing_opens : opened tables user role role ≡ []
+  pub nothing_opens : opened tables user role role ≡ []
   nothing_opens = sift_none (λ row. only_if (opens tables user role role row.0) (Some (shown_stream row.1)))
       (λ row. ap (λ b. only_if b (Some (shown_stream row.1))) (never (sees_by role (stream_at tables row.0) (is_subscribed tables user row.0)))) tables.streams
 

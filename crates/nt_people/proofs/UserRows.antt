@@ -39,7 +39,7 @@ at_shown rows rise q = row_at-sift user_order (λ row. Some (shown_user row.1)) 
     go None = refl
     go (Some row) = refl
 
-abbrev events_of_row : UserId → Option ShownUser → Option ShownUser → List Event
+abbrev pub events_of_row : UserId → Option ShownUser → Option ShownUser → List Event
 events_of_row user old new = events_at (map (λ row. UserAdd row.0 row.1)) user_changes (λ _. []) user old new
 
 module _ (before after : Tables) (old_rise : SortedByKey user_cmp before.users) (new_rise : SortedByKey user_cmp after.users) (user : UserId) (agree : AgreeBut user_cmp user before.users after.users) where
