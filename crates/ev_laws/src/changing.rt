@@ -17,8 +17,11 @@ mod ranges;
 mod reactions;
 mod streams;
 
+pub use differences::push_one_of;
+pub use messages::{push_all_new, with_reactions};
+
 use compared::ComparedView;
-use differences::{gained_keys, push_kept, push_one_of};
+use differences::{gained_keys, push_kept};
 use ev_base::NoMemory;
 use ev_types::{Event, State};
 use flags::push_flags;
