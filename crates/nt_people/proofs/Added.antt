@@ -1,5 +1,5 @@
 -- A new user, and a new value of the realm's own row.
-use Rattle.std.proofs.Common.{◌≡◌, ℕ, ◌+◌, Bool, true, false, ◌&&◌, cond, List, [], ◌∷◌, ◌++◌, flat_map, length, Option, None, Some, is_some, option_map, option_and_then, sym, ap, refl, ◌∙◌, arith, append-nil}
+use Rattle.std.proofs.Common.{◌≡◌, ℕ, bytes_eq, ◌+◌, Bool, true, false, ◌&&◌, cond, List, [], ◌∷◌, ◌++◌, flat_map, length, Option, None, Some, is_some, option_map, option_and_then, sym, ap, refl, ◌∙◌, arith, append-nil}
 use Rattle.std.specs.BTreeMap.{is_at}
 use Rattle.std.proofs.lemmas.Bool.{false≢true}
 use Rattle.ev_rows.specs.Rows.{AgreeBut, SortedByKey, only_if, row_at}
@@ -10,23 +10,26 @@ use Rattle.ev_base.specs.declared.ids.UserId.{UserId}
 use Rattle.ev_base.specs.declared.ids.StreamId.{StreamId}
 use Rattle.ev_base.specs.declared.ids.MessageId.{MessageId}
 use Rattle.ev_base.specs.declared.kinds.Role.{Role}
-use Rattle.ev_types.specs.Changes.{changes_between, realm_changes, user_events}
+use Rattle.ev_types.specs.Changes.{changes_between, realm_changes, unless, user_events}
 use Rattle.ev_types.specs.declared.event.Event.{Event}
-use Rattle.ev_types.specs.declared.event.Event.TheVariants.{UserAdd}
+use Rattle.ev_types.specs.declared.event.Event.TheVariants.{RealmUpdate, UserAdd}
+use Rattle.ev_types.specs.declared.event.RealmField.TheVariants as realm_field
 use Rattle.ev_types.specs.declared.notice.Audience.TheVariants.{Everyone, Only}
-use Rattle.nt_people.specs.PeopleParts.{message_sight, people_parts, stream_sight}
+use Rattle.nt_people.specs.PeopleParts.{message_sight, realm_parts, stream_sight}
 use Rattle.nt_people.proofs.SightShift.{message_shift, no_subscription, peer_shift, shifted, stream_shift}
 use Rattle.nt_people.proofs.Still.{no_receipts, nothing_opens, same_messages, same_streams}
 use Rattle.nt_people.proofs.UserRows.{events_of_row, no_user, one_user}
 use Rattle.nt_rules.specs.Parts.{heard_of, to}
+use Rattle.nt_rules.proofs.FieldsStay.{same_text}
 use Rattle.nt_rules.proofs.Heard.{has_one, heard_both, heard_to}
 use Rattle.nt_rules.proofs.Six.{six}
 use Rattle.zr_types.specs.declared.command.NameField.{NameField}
+use Rattle.zr_types.specs.declared.command.NameField.TheVariants as field
 use Rattle.zr_types.specs.declared.people.RealmRow.{RealmRow}
 use Rattle.zr_types.specs.declared.people.User.{User}
 use Rattle.zr_types.specs.declared.posts.Receipt.{Receipt}
 use Rattle.zr_types.specs.declared.streams.Subscription.{Subscription}
-use Rattle.zr_types.specs.Effects.{next_user}
+use Rattle.zr_types.specs.Effects.{next_user, realm_with}
 use Rattle.zr_types.specs.Sound.{CountFrom, IsSound, TablesSorted, is_message, is_stream, user_number}
 use Rattle.zr_types.specs.Tables.{Tables, receipt_of, subscription_of, user_at}
 use Rattle.zr_types.specs.Visibility.{is_subscribed, is_user, role_of}
@@ -190,10 +193,9 @@ module _ (tables : Tables) (rise : TablesSorted tables) (row : RealmRow) (hearer
   abbrev there : Option Role
   there = role_of tables hearer
 
-  pub realm_told : heard_of hearer (to Everyone (realm_changes (shown_realm tables.realm) (shown_realm row))) ≡ changes_between (view_of tables hearer) (view_of renamed hearer)
-  realm_told =
-      heard_to hearer Everyone (realm_changes (shown_realm tables.realm) (shown_realm row))
-      ∙ sym (six (view_of tables hearer) (view_of renamed hearer) refl (no_user tables rise.users)
+  realm_changed : realm_changes (shown_realm tables.realm) (shown_realm row) ≡ changes_between (view_of tables hearer) (view_of renamed hearer)
+  realm_changed =
+      sym (six (view_of tables hearer) (view_of renamed hearer) refl (no_user tables rise.users)
       (stream_shift tables rise tables.users rise.users hearer ∙ rw (nothing_opens tables hearer there) refl)
       (no_subscription tables rise tables.users rise.users hearer (λ stream is. refl))
       (peer_shift tables rise tables.users rise.users hearer (λ stream. refl) ∙ rw (nothing_opens tables hearer there) refl)
@@ -202,3 +204,17 @@ module _ (tables : Tables) (rise : TablesSorted tables) (row : RealmRow) (hearer
     where
       together : (a : List Event) → a ++ [] ++ [] ++ [] ++ [] ++ [] ≡ a
       together a = simp append-nil
+
+pub realm_told : (tables : Tables) → TablesSorted tables → (property : NameField) (value : List ℕ) (hearer : UserId)
+    → heard_of hearer (realm_parts tables.realm property value)
+    ≡ changes_between (view_of tables hearer) (view_of (record tables { realm = realm_with property value tables.realm }) hearer)
+realm_told tables rise field.Name value hearer =
+    let told = unless (bytes_eq tables.realm.name value) (RealmUpdate (realm_field.Name value)) in
+    heard_to hearer Everyone told ∙ sym (append-nil told)
+    ∙ ap (λ b. told ++ unless b (RealmUpdate (realm_field.Description tables.realm.description))) (sym (same_text tables.realm.description))
+    ∙ realm_changed tables rise (realm_with field.Name value tables.realm) hearer
+realm_told tables rise field.Description value hearer =
+    let told = unless (bytes_eq tables.realm.description value) (RealmUpdate (realm_field.Description value)) in
+    heard_to hearer Everyone told
+    ∙ ap (λ b. unless b (RealmUpdate (realm_field.Name tables.realm.name)) ++ told) (sym (same_text tables.realm.name))
+    ∙ realm_changed tables rise (realm_with field.Description value tables.realm) hearer

@@ -1,5 +1,5 @@
 -- Changes of one user's row: of a field that all see, of the role, and of whether the user is active.
-use Rattle.std.proofs.Common.{◌≡◌, Bool, true, false, not, ◌&&◌, cond, List, [], ◌∷◌, ◌++◌, flat_map, Option, None, Some, is_some, option_map, option_and_then, sym, ap, refl, ◌∙◌, append-nil, append_assoc}
+use Rattle.std.proofs.Common.{◌≡◌, ℕ, ◌==◌, bytes_eq, Bool, true, false, not, ◌&&◌, cond, List, [], ◌∷◌, ◌++◌, flat_map, Option, None, Some, is_some, option_map, option_and_then, sym, ap, refl, ◌∙◌, append-nil, append_assoc}
 use Rattle.std.proofs.Math.Bool.{beq}
 use Rattle.std.specs.BTreeMap.{is_at}
 use Rattle.ev_rows.specs.Rows.{AgreeBut, SortedByKey, fresh, gained, keys_of, made_of, one_of, one_row, only_if, row_at}
@@ -17,13 +17,13 @@ use Rattle.ev_types.specs.declared.event.Event.TheVariants.{PeerAdd, PeerRemove,
 use Rattle.ev_types.specs.declared.event.UserField.TheVariants as user_field
 use Rattle.ev_types.specs.declared.notice.Audience.TheVariants.{Everyone, Only}
 use Rattle.ev_types.specs.declared.notice.Part.{Part}
-use Rattle.nt_people.specs.PeopleParts.{active_parts, change_parts, message_sight, opened, peer_part, role_parts, row_parts, stream_sight}
+use Rattle.nt_people.specs.PeopleParts.{active_parts, message_sight, name_parts, opened, peer_part, role_parts, stream_sight}
 use Rattle.nt_people.proofs.SightShift.{message_shift, no_subscription, nothing, quiet, shifted, still_rise, stream_shift}
 use Rattle.nt_people.proofs.Still.{nothing_opens, same_messages, same_streams}
 use Rattle.nt_people.proofs.UserRows.{changed_cell, changed_here, changed_rise, changed_user, peer_at, same_peers, same_roles}
 use Rattle.nt_rules.specs.Parts.{gained_peers, heard_of, lost_peers, to, viewers}
 use Rattle.nt_rules.proofs.Alike.{either_way}
-use Rattle.nt_rules.proofs.FieldsStay.{realm_stays, same_number, same_text}
+use Rattle.nt_rules.proofs.FieldsStay.{realm_stays, same_bool, same_number, same_text}
 use Rattle.nt_rules.proofs.Heard.{has_one, has_viewers, heard_both, heard_each, heard_to}
 use Rattle.nt_rules.proofs.PeerChanges.{flat_map_same, peers_change}
 use Rattle.nt_rules.proofs.Six.{six}
@@ -71,21 +71,19 @@ module _ (tables : Tables) (rise : TablesSorted tables) (user : UserId) (change 
       shifted tables rise (changed_at user_cmp user change tables.users) after_rise hearer (same_peers tables rise.users user change keeps) (λ stream is. same_there) (λ message is. same_there)
       ∙ ap (λ l. l ++ sight (role_of tables hearer) (role_of after hearer)) (changed_user tables rise.users user change)
 
-  heard_row : (row : User) → heard_of hearer (row_parts tables user change row) ≡ told row
-  heard_row row = heard_to hearer Everyone (told row)
-
   -- a change that keeps the role too is told to everyone
-  pub change_told : ((row : User) → (change row).is_active ≡ row.is_active) → ((row : User) → (change row).role ≡ row.role)
-      → heard_of hearer (change_parts tables user change) ≡ changes_between (view_of tables hearer) (view_of after hearer)
-  change_told keeps_active keeps_role =
+  pub change_told : (parts : User → List Part) → ((row : User) → heard_of hearer (parts row) ≡ told row)
+      → ((row : User) → (change row).is_active ≡ row.is_active) → ((row : User) → (change row).role ≡ row.role)
+      → heard_of hearer (made_of parts (user_at tables user)) ≡ changes_between (view_of tables hearer) (view_of after hearer)
+  change_told parts heard keeps_active keeps_role =
       go (user_at tables user)
       ∙ sym (append-nil (made_of told (user_at tables user)))
       ∙ ap (λ l. made_of told (user_at tables user) ++ l) (sym (no_sight (role_of tables hearer) (role_of after hearer) (same_roles tables rise.users user change keeps_role hearer)))
       ∙ sym (changed keeps_active)
     where
-      go : (o : Option User) → heard_of hearer (made_of (row_parts tables user change) o) ≡ made_of told o
+      go : (o : Option User) → heard_of hearer (made_of parts o) ≡ made_of told o
       go None = refl
-      go (Some row) = heard_row row
+      go (Some row) = heard row
 
   -- the subscribers of a stream may be changed at the user alone
   abbrev cell : StreamId → Option User → Option (Unit {0})
@@ -322,6 +320,12 @@ module _ (tables : Tables) (rise : TablesSorted tables) (user : UserId) (role : 
   abbrev own_sight : UserId → Option Role → Option Role → List Event
   own_sight reader old new = stream_sight tables reader old new ++ message_sight tables reader old new
 
+  abbrev role_change : User → List Event
+  role_change row = unless (role_number row.role == role_number role) (UserChange user (user_field.Role role))
+
+  told_role : (row : User) → told tables rise user in_role hearer row ≡ role_change row
+  told_role row = rw (same_text row.full_name, same_bool row.is_active) (append-nil (role_change row))
+
   -- only the user's own sight changes
   seen_by : (b : Bool) → is_at (user_cmp hearer) user ≡ b
       → own_sight hearer (role_of tables hearer) (cond b (option_map (λ (row : User). role) (user_at tables hearer)) (role_of tables hearer))
@@ -341,7 +345,23 @@ module _ (tables : Tables) (rise : TablesSorted tables) (user : UserId) (role : 
       go None = either_way (is_at (user_cmp hearer) user) []
           ∙ ap (λ (l : List Event). cond (is_at (user_cmp hearer) user) l []) (sym (no_sight tables rise user in_role user None None refl))
       go (Some row) =
-          heard_both hearer (row_parts tables user in_role row) (to (Only (user ∷ [])) (own_sight user (Some row.role) (Some role)))
-          ∙ ap (λ l. l ++ heard_of hearer (to (Only (user ∷ [])) (own_sight user (Some row.role) (Some role)))) (heard_row tables rise user in_role hearer row)
+          heard_both hearer (to Everyone (role_change row)) (to (Only (user ∷ [])) (own_sight user (Some row.role) (Some role)))
+          ∙ ap (λ l. l ++ heard_of hearer (to (Only (user ∷ [])) (own_sight user (Some row.role) (Some role)))) (heard_to hearer Everyone (role_change row) ∙ sym (told_role row))
           ∙ ap (λ l. told tables rise user in_role hearer row ++ l)
           (heard_to hearer (Only (user ∷ [])) (own_sight user (Some row.role) (Some role)) ∙ ap (λ b. cond b (own_sight user (Some row.role) (Some role)) []) (has_one hearer user))
+
+-- the user gets another name
+module _ (tables : Tables) (rise : TablesSorted tables) (user : UserId) (full_name : List ℕ) (hearer : UserId) where
+  abbrev named : User → User
+  named row = record row { full_name = full_name }
+
+  abbrev name_change : User → List Event
+  name_change row = unless (bytes_eq row.full_name full_name) (UserChange user (user_field.FullName full_name))
+
+  told_name : (row : User) → told tables rise user named hearer row ≡ name_change row
+  told_name row = rw (same_number (role_number row.role), same_bool row.is_active) (append-nil (name_change row ++ []) ∙ append-nil (name_change row))
+
+  pub name_told : heard_of hearer (made_of (name_parts tables user full_name) (user_at tables user))
+      ≡ changes_between (view_of tables hearer) (view_of (with_user tables user named) hearer)
+  name_told =
+      change_told tables rise user named hearer (name_parts tables user full_name) (λ row. heard_to hearer Everyone (name_change row) ∙ sym (told_name row)) (λ row. refl) (λ row. refl)

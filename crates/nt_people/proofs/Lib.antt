@@ -3,3 +3,4 @@ pub mod SightShift
 pub mod Still
 pub mod Changed
 pub mod Added
+pub mod People

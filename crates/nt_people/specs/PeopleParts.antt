@@ -1,30 +1,35 @@
 -- The parts of the notice of a change of people.
-use Rattle.std.specs.Prelude.{ℕ, Bool, true, false, not, ◌&&◌, if◌then◌else◌, List, [], ◌∷◌, ◌++◌, map, flat_map, Option, None, Some, option_map}
+use Rattle.std.specs.Prelude.{ℕ, Bool, true, false, not, ◌&&◌, ◌==◌, bytes_eq, if◌then◌else◌, List, [], ◌∷◌, ◌++◌, map, flat_map, Option, None, Some, option_map}
 use Rattle.std.proofs.Math.Bool.{beq}
 use Rattle.ev_base.specs.declared.ids.UserId.{UserId}
 use Rattle.ev_base.specs.declared.ids.StreamId.{StreamId}
 use Rattle.ev_base.specs.declared.ids.MessageId.{MessageId}
 use Rattle.ev_base.specs.declared.kinds.Role.{Role}
 use Rattle.ev_base.specs.declared.place.Place.{Place}
+use Rattle.ev_base.specs.Roles.{role_number}
 use Rattle.ev_base.specs.declared.place.Place.TheVariants as place
 use Rattle.ev_rows.specs.Rows.{keys_of, made_of, one_of, only_if, sift}
-use Rattle.ev_types.specs.Changes.{arrivals, full_message, realm_changes, user_changes}
+use Rattle.ev_types.specs.Changes.{arrivals, full_message, unless}
 use Rattle.ev_types.specs.declared.event.Event.{Event}
 use Rattle.ev_types.specs.declared.event.Event.TheVariants as event
+use Rattle.ev_types.specs.declared.event.RealmField.TheVariants as realm_field
 use Rattle.ev_types.specs.declared.event.UserField.TheVariants as user_field
 use Rattle.ev_types.specs.declared.notice.Audience.TheVariants.{Everyone, Only}
 use Rattle.ev_types.specs.declared.notice.Part.{Part}
 use Rattle.ev_types.specs.declared.rows.ShownMessage.{ShownMessage}
 use Rattle.ev_types.specs.declared.rows.ShownStream.{ShownStream}
 use Rattle.nt_rules.specs.Parts.{to, viewers}
+use Rattle.zr_types.specs.declared.command.NameField.{NameField}
+use Rattle.zr_types.specs.declared.command.NameField.TheVariants as field
+use Rattle.zr_types.specs.declared.people.RealmRow.{RealmRow}
 use Rattle.zr_types.specs.declared.command.PeopleCommand.{PeopleCommand}
 use Rattle.zr_types.specs.declared.command.PeopleCommand.TheVariants as of_people
 use Rattle.zr_types.specs.declared.people.User.{User}
 use Rattle.zr_types.specs.declared.streams.Stream.{Stream}
-use Rattle.zr_types.specs.Effects.{next_user, realm_with}
+use Rattle.zr_types.specs.Effects.{next_user}
 use Rattle.zr_types.specs.Tables.{Tables, receipt_of, stream_at, user_at}
 use Rattle.zr_types.specs.Visibility.{is_subscribed, sees_by}
-use Rattle.zw_views.specs.Views.{peers, shown_message, shown_realm, shown_stream, shown_user}
+use Rattle.zw_views.specs.Views.{peers, shown_message, shown_stream}
 
 module _ (tables : Tables) (user : UserId) where
   -- the user sees the stream in a new role and didn't see it in an old one. Without a role the user isn't there
@@ -59,12 +64,9 @@ module _ (tables : Tables) (user : UserId) where
       arrivals (map (full_message tables.reactions) (arrived old new))
       ++ one_of event.MessageGone (keys_of (arrived new old))
 
-  -- what everyone is told of a change of the user's row
-  abbrev pub row_parts : (User → User) → User → List Part
-  row_parts change row = to Everyone (user_changes (user, (shown_user row, shown_user (change row))))
-
-  abbrev pub change_parts : (User → User) → List Part
-  change_parts change = made_of (row_parts change) (user_at tables user)
+  -- what everyone is told of the user's new name
+  abbrev pub name_parts : List ℕ → User → List Part
+  name_parts full_name row = to Everyone (unless (bytes_eq row.full_name full_name) (event.UserChange user (user_field.FullName full_name)))
 
   -- what those who see a stream of the user's are told where the user becomes active, or no longer is
   abbrev pub peer_part : Bool → StreamId × Stream → List Part
@@ -82,17 +84,22 @@ module _ (tables : Tables) (user : UserId) where
   -- what everyone, and the user, is told of a new role
   abbrev pub role_parts : Role → User → List Part
   role_parts role row =
-      row_parts (λ row. record row { role = role }) row
+      to Everyone (unless (role_number row.role == role_number role) (event.UserChange user (user_field.Role role)))
       ++ to (Only (user ∷ [])) (stream_sight (Some row.role) (Some role) ++ message_sight (Some row.role) (Some role))
+
+-- what everyone is told of a field of the realm
+abbrev pub realm_parts : RealmRow → NameField → List ℕ → List Part
+realm_parts row field.Name value = to Everyone (unless (bytes_eq row.name value) (event.RealmUpdate (realm_field.Name value)))
+realm_parts row field.Description value =
+    to Everyone (unless (bytes_eq row.description value) (event.RealmUpdate (realm_field.Description value)))
 
 -- the parts of each command's notice
 abbrev pub people_parts : Tables → PeopleCommand → List Part
-people_parts tables (of_people.RealmUpdate property value) =
-    to Everyone (realm_changes (shown_realm tables.realm) (shown_realm (realm_with property value tables.realm)))
+people_parts tables (of_people.RealmUpdate property value) = realm_parts tables.realm property value
 people_parts tables (of_people.UserAdd email full_name role key) =
     to Everyone (event.UserAdd (next_user tables) (record { email = email; full_name = full_name; role = role; is_active = true }) ∷ [])
     ++ to (Only (next_user tables ∷ [])) (stream_sight tables (next_user tables) None (Some role))
-people_parts tables (of_people.UserUpdate user full_name) = change_parts tables user (λ row. record row { full_name = full_name })
+people_parts tables (of_people.UserUpdate user full_name) = made_of (name_parts tables user full_name) (user_at tables user)
 people_parts tables (of_people.UserRole user role) = made_of (role_parts tables user role) (user_at tables user)
 people_parts tables (of_people.UserDeactivate user) = made_of (active_parts tables user false) (user_at tables user)
 people_parts tables (of_people.UserReactivate user) = made_of (active_parts tables user true) (user_at tables user)
