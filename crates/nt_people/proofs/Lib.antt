@@ -3,4 +3,6 @@ pub mod SightShift
 pub mod Still
 pub mod Changed
 pub mod Added
-pub mod People
+pub mod PeopleTold
+pub mod EachMore
+pub mod Checked

@@ -36,8 +36,7 @@ use Rattle.zw_views.specs.Views.{has_message, messages, peers, reactions, realm_
 use Rattle.nt_rules.specs.Parts.{gained_peers, lost_peers}
 use Rattle.nt_rules.proofs.Alike.{AlikeWhereKept, keyed_alike}
 use Rattle.nt_rules.proofs.FieldsStay.{realm_stays, stream_stays, subscription_stays}
-use Rattle.nt_rules.proofs.MessageChanges.{come_and_go}
-use Rattle.nt_rules.proofs.PeerChanges.{flat_map_same, peers_by_stream, peers_change}
+use Rattle.nt_rules.proofs.PeerChanges.{flat_map_keys, flat_map_same, peers_by_stream, peers_change}
 use Rattle.nt_rules.proofs.Sight.{has_shown, sift_same, sight_changes, whole_message}
 use Rattle.nt_rules.proofs.Six.{six}
 use Rattle.nt_people.specs.PeopleParts.{arrived, message_sight, opened, opens, opens_place, stream_sight}
@@ -302,14 +301,14 @@ module _ (before : Tables) (rise : TablesSorted before) (users : List (UserId ×
           go false false = refl
 
       -- subscribers come with their streams
-      pub peer_shift : peer_events (view_of before user) (view_of with_users user) ≡ flat_map (λ row. one_of (PeerAdd row.0) (keys_of (peers before row.0))) (opened before user old new)
+      pub peer_shift : peer_events (view_of before user) (view_of with_users user) ≡ flat_map (λ stream. one_of (PeerAdd stream) (keys_of (peers before stream))) (keys_of (opened before user old new))
       peer_shift =
           peers_change before with_users rise.streams rise.streams user
           ∙ ap (λ (l : List Event). l ++ flat_map (λ row. one_of (PeerRemove row.0) (keys_of (lost_peers (sees_stream before user row.0) (sees_stream with_users user row.0) (peers before row.0) (peers with_users row.0)))) before.streams)
-          (flat_map_same _ _ added before.streams ∙ sym (flat_map-sift (λ shown. one_of (PeerAdd shown.0) (keys_of (peers before shown.0))) (λ row. only_if (opens before user old new row.0) (Some (shown_stream row.1))) before.streams))
-          ∙ ap (λ (l : List Event). flat_map (λ row. one_of (PeerAdd row.0) (keys_of (peers before row.0))) (opened before user old new) ++ l)
+          (flat_map_same _ _ added before.streams ∙ sym (flat_map_keys (λ stream. one_of (PeerAdd stream) (keys_of (peers before stream))) (λ row. only_if (opens before user old new row.0) (Some (shown_stream row.1))) before.streams))
+          ∙ ap (λ (l : List Event). flat_map (λ stream. one_of (PeerAdd stream) (keys_of (peers before stream))) (keys_of (opened before user old new)) ++ l)
           (flat_map_same _ quiet removed before.streams ∙ nothing before.streams)
-          ∙ append-nil (flat_map (λ row. one_of (PeerAdd row.0) (keys_of (peers before row.0))) (opened before user old new))
+          ∙ append-nil (flat_map (λ stream. one_of (PeerAdd stream) (keys_of (peers before stream))) (keys_of (opened before user old new)))
 
     -- what everyone is told of the rows of users, and what the user is told of the streams, their subscribers and their messages
     pub shifted : ((stream : StreamId) → peers with_users stream ≡ peers before stream)
@@ -320,4 +319,4 @@ module _ (before : Tables) (rise : TablesSorted before) (users : List (UserId ×
     shifted peers_stay subscriber_stays reader_stays =
         six (view_of before user) (view_of with_users user) (realm_stays (shown_realm before.realm)) refl stream_shift (no_subscription subscriber_stays) (peer_shift peers_stay) (message_shift reader_stays)
         ∙ together (user_events (realm_users before) (realm_users with_users)) (one_of StreamCreate (opened before user old new) ++ one_of StreamDelete (keys_of (opened before user new old)))
-        (flat_map (λ row. one_of (PeerAdd row.0) (keys_of (peers before row.0))) (opened before user old new)) (message_sight before user old new)
+        (flat_map (λ stream. one_of (PeerAdd stream) (keys_of (peers before stream))) (keys_of (opened before user old new))) (message_sight before user old new)

@@ -22,14 +22,21 @@ use Rattle.nt_rules.specs.Parts.{to, viewers}
 use Rattle.zr_types.specs.declared.command.NameField.{NameField}
 use Rattle.zr_types.specs.declared.command.NameField.TheVariants as field
 use Rattle.zr_types.specs.declared.people.RealmRow.{RealmRow}
+use Rattle.zr_types.specs.declared.command.Command.{Command}
+use Rattle.zr_types.specs.declared.command.Command.TheVariants.{People}
 use Rattle.zr_types.specs.declared.command.PeopleCommand.{PeopleCommand}
 use Rattle.zr_types.specs.declared.command.PeopleCommand.TheVariants as of_people
 use Rattle.zr_types.specs.declared.people.User.{User}
 use Rattle.zr_types.specs.declared.streams.Stream.{Stream}
+use Rattle.zr_types.specs.Commands.{texts_of}
 use Rattle.zr_types.specs.Effects.{next_user}
 use Rattle.zr_types.specs.Tables.{Tables, receipt_of, stream_at, user_at}
 use Rattle.zr_types.specs.Visibility.{is_subscribed, sees_by}
 use Rattle.zw_views.specs.Views.{peers, shown_message, shown_stream}
+
+-- what everyone is told of a user's role
+abbrev pub role_change_parts : UserId → Role → Role → List Part
+role_change_parts user old new = to Everyone (unless (role_number old == role_number new) (event.UserChange user (user_field.Role new)))
 
 module _ (tables : Tables) (user : UserId) where
   -- the user sees the stream in a new role and didn't see it in an old one. Without a role the user isn't there
@@ -56,7 +63,7 @@ module _ (tables : Tables) (user : UserId) where
   stream_sight old new =
       one_of event.StreamCreate (opened old new)
       ++ one_of event.StreamDelete (keys_of (opened new old))
-      ++ flat_map (λ row. one_of (event.PeerAdd row.0) (keys_of (peers tables row.0))) (opened old new)
+      ++ flat_map (λ stream. one_of (event.PeerAdd stream) (keys_of (peers tables stream))) (keys_of (opened old new))
 
   -- and of their messages
   abbrev pub message_sight : Option Role → Option Role → List Event
@@ -81,10 +88,10 @@ module _ (tables : Tables) (user : UserId) where
       then []
       else to Everyone (event.UserChange user (user_field.IsActive is_active) ∷ []) ++ flat_map (peer_part is_active) tables.streams
 
-  -- what everyone, and the user, is told of a new role
+  -- what everyone, and the user besides, is told of a new role
   abbrev pub role_parts : Role → User → List Part
   role_parts role row =
-      to Everyone (unless (role_number row.role == role_number role) (event.UserChange user (user_field.Role role)))
+      role_change_parts user row.role role
       ++ to (Only (user ∷ [])) (stream_sight (Some row.role) (Some role) ++ message_sight (Some row.role) (Some role))
 
 -- what everyone is told of a field of the realm
@@ -103,3 +110,12 @@ people_parts tables (of_people.UserUpdate user full_name) = made_of (name_parts 
 people_parts tables (of_people.UserRole user role) = made_of (role_parts tables user role) (user_at tables user)
 people_parts tables (of_people.UserDeactivate user) = made_of (active_parts tables user false) (user_at tables user)
 people_parts tables (of_people.UserReactivate user) = made_of (active_parts tables user true) (user_at tables user)
+
+-- a command of people
+abbrev pub is_of_people : Command → Bool
+is_of_people (People command) = true
+is_of_people command = false
+
+-- the texts that a command of people brings
+abbrev pub texts_in : Tables → PeopleCommand → List (List ℕ)
+texts_in tables command = map (λ text. text.1) (texts_of tables (People command))

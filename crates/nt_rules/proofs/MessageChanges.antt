@@ -6,6 +6,7 @@ use Rattle.ev_types.specs.declared.event.Event.{Event}
 use Rattle.ev_types.specs.declared.event.Event.TheVariants.{MessageGone}
 use Rattle.ev_types.specs.Changes.{arrivals, edits, full_message, is_kept, message_events, reaction_events}
 use Rattle.ev_types.specs.Sections.{ReactionKey, Sections}
+use Rattle.nt_rules.specs.Laws.{come_and_go}
 use Rattle.nt_rules.proofs.Alike.{AlikeWhereKept, kept_twins, none_gained, staying, twins_quiet}
 use Rattle.nt_rules.proofs.FieldsStay.{content_stays, no_flags, no_moves}
 
@@ -16,12 +17,6 @@ pub record MessagesStay (before after : Sections) : Type 0 where
   pub new_reactions : SortedByKey reaction_cmp after.reactions
   pub alike : AlikeWhereKept message_cmp before.messages after.messages
   pub reactions : (key : ReactionKey) → is_kept before after key.0 ≡ true → row_at reaction_cmp before.reactions key ≡ row_at reaction_cmp after.reactions key
-
--- the events of messages that come and go
-abbrev pub come_and_go : Sections → Sections → List Event
-come_and_go before after =
-    arrivals (map (full_message after.reactions) (gained message_cmp before.messages after.messages))
-    ++ one_of MessageGone (keys_of (lost message_cmp before.messages after.messages))
 
 no_reactions : (before after : Sections) → MessagesStay before after → reaction_events before after ≡ []
 no_reactions before after stay =

@@ -80,7 +80,7 @@ module _ (tables : Tables) (rise : SortedByKey stream_cmp tables.streams) (user 
       ∙ ap (λ b. cond b (peers tables stream) []) (has_seen stream)
 
 -- what is made of the keys of the rows that a list makes of another
-flat_map_keys : {K V W E : Type 0} (make : K → List E) (f : K × V → Option W) (rows : List (K × V))
+pub flat_map_keys : {K V W E : Type 0} (make : K → List E) (f : K × V → Option W) (rows : List (K × V))
     → flat_map make (keys_of (sift f rows)) ≡ flat_map (λ row. made_of (λ _. make row.0) (f row)) rows
 flat_map_keys make f [] = refl
 flat_map_keys make f (row ∷ rows) = go (f row) (flat_map_keys make f rows)

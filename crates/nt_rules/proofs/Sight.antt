@@ -23,8 +23,9 @@ use Rattle.zr_types.specs.Tables.{Tables, message_at, receipt_of}
 use Rattle.zr_types.specs.Visibility.{sees_message}
 use Rattle.zw_views.specs.RowViews.{message_in, reaction_in}
 use Rattle.zw_views.specs.Views.{has_message, messages, reactions, shown_message, view_of}
+use Rattle.nt_rules.specs.Laws.{come_and_go}
 use Rattle.nt_rules.proofs.Alike.{AlikeWhereKept}
-use Rattle.nt_rules.proofs.MessageChanges.{come_and_go, messages_stay}
+use Rattle.nt_rules.proofs.MessageChanges.{messages_stay}
 
 module _ {K V W : Type 0} {cmp : K → K → Ordering} (order : KeyOrder cmp) (f g : K × V → Option W) where
   -- functions that agree on the rows make the same list of them
