@@ -80,17 +80,32 @@ pub fn push_new_user(
         ++ to (Audience.Only (next_user realm.now.state.tables ∷ []))
         (stream_sight realm.now.state.tables (next_user realm.now.state.tables) None (Some role)))) }
 {
-    let user = UserId(realm.people().users_rows().len() as u32 + 1);
-    let row = ShownUser {
-        email: email.clone()?,
-        full_name: full_name.clone()?,
-        role,
-        is_active: true,
-    };
+    let user = next_user(realm);
+    let row = new_row(email, full_name, role)?;
     push_to_everyone(parts, Event::UserAdd { user, row })?;
     let mut events = Vec::new(*parts.allocator());
     push_stream_sight(realm, user, None, Some(role), &mut events)?;
     push_to_one(parts, user, events)
+}
+
+// The number of the next user.
+fn next_user(realm: &Realm) -> UserId
+    requires { length realm.now.state.tables.users + 1 < 2 ^ 32 }
+    ensures { result ≡ next_user realm.now.state.tables }
+{
+    UserId(realm.people().users_rows().len() as u32 + 1)
+}
+
+// A new user, who is active.
+fn new_row(email: &Text, full_name: &Text, role: Role) -> Result<ShownUser, NoMemory>
+    ensures { IfOk result (λ row. row ≡ record { email = email.now; full_name = full_name.now; role = role; is_active = true }) }
+{
+    Ok(ShownUser {
+        email: email.clone()?,
+        full_name: full_name.clone()?,
+        role,
+        is_active: true,
+    })
 }
 
 /// Tells everyone of a user's role, and the user of the streams and messages that come and go with it.

@@ -8,7 +8,7 @@ pub loop-row-preserved : goal.loop-row-preserved
 loop-row-preserved c =
     let within : c.loop-row.row-index < length c.streams_rows-row-items.result.now = omega arith in
     flat_map_more (peer_part c.args.realm.now.state.tables c.args.user c.args.is_active) c.streams_rows-row-items.result.now c.loop-row.row-index c.row-item.result
-    within c.row-item.is _ _ _ c.loop-row.invariant c.in_ok-push_peer.ensures
+    _ _ _ c.loop-row.invariant c.in_ok-push_peer.ensures within c.row-item.is
 
 pub returns : goal.returns
 returns c =

@@ -1,4 +1,4 @@
-use Rattle.std.proofs.Common.{◌∙◌, List, ◌++◌, ◌<◌, ap, arith, flat_map, length}
+use Rattle.std.proofs.Common.{◌∙◌, List, ◌++◌, ◌<◌, ap, arith, flat_map, length, rules}
 use Rattle.ev_base.specs.declared.ids.StreamId.{StreamId}
 use Rattle.ev_rows.specs.Rows.{keys_of, one_of}
 use Rattle.ev_types.specs.declared.event.Event.{Event}
@@ -12,8 +12,7 @@ pub loop-stream-preserved : goal.loop-stream-preserved
 loop-stream-preserved c =
     let within : c.loop-stream.stream-index < length c.args.streams.now = omega arith in
     let tell : StreamId → List Event = λ stream. one_of (PeerAdd stream) (keys_of (peers c.args.realm.now.state.tables stream)) in
-    flat_map_more tell c.args.streams.now c.loop-stream.stream-index c.stream-item.result within c.stream-item.is
-    _ _ _ c.loop-stream.invariant c.in_ok-push_subscribers_of.ensures
+    flat_map_more tell c.args.streams.now c.loop-stream.stream-index _ _ _ _ c.loop-stream.invariant c.in_ok-push_subscribers_of.ensures within (search rules)
 
 pub returns : goal.returns
 returns c =
