@@ -1,11 +1,11 @@
 -- A new user, and a new value of the realm's own row.
-use Rattle.std.proofs.Common.{◌≡◌, ℕ, bytes_eq, ◌+◌, Bool, true, false, ◌&&◌, cond, List, [], ◌∷◌, ◌++◌, flat_map, length, Option, None, Some, is_some, option_map, option_and_then, sym, ap, refl, ◌∙◌, arith, append-nil}
+use Rattle.std.proofs.Common.{◌≡◌, ℕ, bytes_eq, ◌+◌, Bool, true, false, ◌&&◌, cond, List, [], ◌∷◌, ◌++◌, length, Option, None, Some, is_some, option_map, option_and_then, sym, ap, refl, ◌∙◌, arith, append-nil}
 use Rattle.std.specs.BTreeMap.{is_at}
 use Rattle.std.proofs.lemmas.Bool.{false≢true}
-use Rattle.ev_rows.specs.Rows.{AgreeBut, SortedByKey, only_if, row_at}
+use Rattle.ev_rows.specs.Rows.{SortedByKey, only_if, row_at}
 use Rattle.ev_rows.proofs.RiseLemmas.{rise-sift}
 use Rattle.ev_rows.proofs.RowLemmas.{at_itself, at_same, row_at-sift, same_rows}
-use Rattle.ev_base.specs.Orders.{message_cmp, stream_cmp, user_cmp, user_message_cmp, user_order, user_stream_cmp}
+use Rattle.ev_base.specs.Orders.{user_cmp, user_order}
 use Rattle.ev_base.specs.declared.ids.UserId.{UserId}
 use Rattle.ev_base.specs.declared.ids.StreamId.{StreamId}
 use Rattle.ev_base.specs.declared.ids.MessageId.{MessageId}
@@ -21,7 +21,7 @@ use Rattle.nt_people.proofs.Still.{no_receipts, nothing_opens, same_messages, sa
 use Rattle.nt_people.proofs.UserRows.{events_of_row, no_user, one_user}
 use Rattle.nt_rules.specs.Parts.{heard_of, to}
 use Rattle.nt_rules.proofs.FieldsStay.{same_text}
-use Rattle.nt_rules.proofs.Heard.{has_one, heard_both, heard_to}
+use Rattle.nt_rules.proofs.Heard.{has_one, heard_to}
 use Rattle.nt_rules.proofs.Six.{six}
 use Rattle.zr_types.specs.declared.command.NameField.{NameField}
 use Rattle.zr_types.specs.declared.command.NameField.TheVariants as field
@@ -113,9 +113,9 @@ module _ (tables : Tables) (sent : ℕ) (rise : TablesSorted tables) (sound : Is
   peers_stay stream =
       same_rows user_order (peers after stream) (peers tables stream) (rise-sift user_cmp (peer_test stream) users_after users_rise) (rise-sift user_cmp (peer_test stream) tables.users rise.users)
       (λ q. row_at-sift user_order (peer_test stream) users_after q users_rise
-          ∙ ap (option_and_then (λ other. peer_test stream (q, other))) (user_cell q)
-          ∙ go q (is_at (user_cmp q) next) refl
-          ∙ sym (row_at-sift user_order (peer_test stream) tables.users q rise.users))
+      ∙ ap (option_and_then (λ other. peer_test stream (q, other))) (user_cell q)
+      ∙ go q (is_at (user_cmp q) next) refl
+      ∙ sym (row_at-sift user_order (peer_test stream) tables.users q rise.users))
     where
       none : (active : Bool) (o : Option Subscription) → o ≡ None → only_if (active && is_some o) (Some (tt {0})) ≡ None
       none true None is = refl

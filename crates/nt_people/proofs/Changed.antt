@@ -1,24 +1,23 @@
 -- Changes of one user's row: of a field that all see, of the role, and of whether the user is active.
-use Rattle.std.proofs.Common.{◌≡◌, ℕ, ◌==◌, bytes_eq, Bool, true, false, not, ◌&&◌, cond, List, [], ◌∷◌, ◌++◌, flat_map, Option, None, Some, is_some, option_map, option_and_then, sym, ap, refl, ◌∙◌, append-nil, append_assoc}
+use Rattle.std.proofs.Common.{◌≡◌, ℕ, ◌==◌, bytes_eq, Bool, true, false, not, ◌&&◌, cond, List, [], ◌∷◌, ◌++◌, flat_map, Option, None, Some, is_some, option_map, option_and_then, sym, ap, refl, ◌∙◌, append-nil}
 use Rattle.std.proofs.Math.Bool.{beq}
 use Rattle.std.specs.BTreeMap.{is_at}
 use Rattle.ev_rows.specs.Rows.{AgreeBut, SortedByKey, fresh, gained, keys_of, made_of, one_of, one_row, only_if, row_at}
 use Rattle.ev_rows.proofs.RiseLemmas.{rise-sift}
-use Rattle.ev_rows.proofs.RowLemmas.{at_itself, at_same, row_at-sift}
-use Rattle.ev_rows.proofs.ChangeLemmas.{fresh-same, gained_at}
+use Rattle.ev_rows.proofs.RowLemmas.{at_same, row_at-sift}
+use Rattle.ev_rows.proofs.ChangeLemmas.{gained_at}
 use Rattle.ev_base.specs.Orders.{user_cmp, user_order}
 use Rattle.ev_base.specs.declared.ids.UserId.{UserId}
 use Rattle.ev_base.specs.declared.ids.StreamId.{StreamId}
 use Rattle.ev_base.specs.declared.kinds.Role.{Role}
-use Rattle.ev_types.specs.Audiences.{has_user}
-use Rattle.ev_types.specs.Changes.{changes_between, peer_events, stream_events, unless, user_changes, user_events}
+use Rattle.ev_types.specs.Changes.{changes_between, stream_events, unless, user_changes}
 use Rattle.ev_types.specs.declared.event.Event.{Event}
 use Rattle.ev_types.specs.declared.event.Event.TheVariants.{PeerAdd, PeerRemove, StreamCreate, StreamDelete, UserChange}
 use Rattle.ev_types.specs.declared.event.UserField.TheVariants as user_field
 use Rattle.ev_types.specs.declared.notice.Audience.TheVariants.{Everyone, Only}
 use Rattle.ev_types.specs.declared.notice.Part.{Part}
 use Rattle.nt_people.specs.PeopleParts.{active_parts, message_sight, name_parts, opened, peer_part, role_parts, stream_sight}
-use Rattle.nt_people.proofs.SightShift.{message_shift, no_subscription, nothing, quiet, shifted, still_rise, stream_shift}
+use Rattle.nt_people.proofs.SightShift.{message_shift, no_subscription, nothing, quiet, shifted, stream_shift}
 use Rattle.nt_people.proofs.Still.{nothing_opens, same_messages, same_streams}
 use Rattle.nt_people.proofs.UserRows.{changed_cell, changed_here, changed_rise, changed_user, peer_at, same_peers, same_roles}
 use Rattle.nt_rules.specs.Parts.{gained_peers, heard_of, lost_peers, to, viewers}
@@ -34,7 +33,7 @@ use Rattle.zr_types.specs.Effects.{changed_at, with_user}
 use Rattle.zr_types.specs.Sound.{TablesSorted}
 use Rattle.zr_types.specs.Tables.{Tables, stream_at, user_at}
 use Rattle.zr_types.specs.Visibility.{is_subscribed, role_of, sees_by, sees_stream}
-use Rattle.zw_views.specs.Views.{peers, realm_users, shown_realm, shown_user, view_of}
+use Rattle.zw_views.specs.Views.{peers, shown_realm, shown_user, view_of}
 
 abbrev nobody_there : List (UserId × Unit {0})
 nobody_there = []
@@ -177,10 +176,10 @@ module _ (tables : Tables) (rise : TablesSorted tables) (user : UserId) (change 
         six (view_of tables hearer) (view_of after hearer) (realm_stays (shown_realm tables.realm)) (changed_user tables rise.users user change) no_stream
         (no_subscription tables rise (changed_at user_cmp user change tables.users) after_rise hearer (λ stream is. same_there))
         (peers_change tables after rise.streams rise.streams hearer
-            ∙ ap (λ (l : List Event). l ++ flat_map (λ row. one_of (PeerRemove row.0) (keys_of (lost_peers (sees_stream tables hearer row.0) (sees_stream after hearer row.0) (peers tables row.0) (peers after row.0)))) tables.streams) (flat_map_same _ (added (user_at tables user)) added_peer tables.streams)
-            ∙ ap (λ (l : List Event). flat_map (added (user_at tables user)) tables.streams ++ l) (flat_map_same _ (removed (user_at tables user)) removed_peer tables.streams))
+        ∙ ap (λ (l : List Event). l ++ flat_map (λ row. one_of (PeerRemove row.0) (keys_of (lost_peers (sees_stream tables hearer row.0) (sees_stream after hearer row.0) (peers tables row.0) (peers after row.0)))) tables.streams) (flat_map_same _ (added (user_at tables user)) added_peer tables.streams)
+        ∙ ap (λ (l : List Event). flat_map (added (user_at tables user)) tables.streams ++ l) (flat_map_same _ (removed (user_at tables user)) removed_peer tables.streams))
         (message_shift tables rise (changed_at user_cmp user change tables.users) after_rise hearer (λ message is. same_there)
-            ∙ ap (message_sight tables hearer (role_of tables hearer)) same_role ∙ same_messages tables hearer (role_of tables hearer))
+        ∙ ap (message_sight tables hearer (role_of tables hearer)) same_role ∙ same_messages tables hearer (role_of tables hearer))
         ∙ together (made_of told (user_at tables user)) (flat_map (added (user_at tables user)) tables.streams ++ flat_map (removed (user_at tables user)) tables.streams)
       where
         together : (a b : List Event) → [] ++ a ++ [] ++ [] ++ b ++ [] ≡ a ++ b

@@ -1,5 +1,5 @@
 -- A change of people that a check made has the effect and the texts of the command that was checked.
-use Rattle.std.proofs.Common.{◌≡◌, ℕ, List, ap, sym}
+use Rattle.std.proofs.Common.{◌≡◌, ℕ, ap, sym}
 use Rattle.ev_base.specs.declared.ids.UserId.{UserId}
 use Rattle.ev_base.specs.declared.ids.MessageId.{MessageId}
 use Rattle.nt_people.specs.PeopleParts.{texts_in}

@@ -1,15 +1,15 @@
 -- What changes for one user number where a realm's users change: the streams and messages that come and go with the user's role,
 -- and the subscribers.
-use Rattle.std.proofs.Common.{◌≡◌, Bool, true, false, not, ◌&&◌, ◌||◌, cond, List, [], ◌∷◌, ◌++◌, map, flat_map, Option, None, Some, is_some, option_map, option_and_then, sym, ap, refl, ◌∙◌, append-nil, append_assoc}
+use Rattle.std.proofs.Common.{◌≡◌, Bool, true, false, not, ◌&&◌, ◌||◌, List, [], ◌∷◌, ◌++◌, map, flat_map, Option, None, Some, is_some, option_map, option_and_then, sym, ap, refl, ◌∙◌, append-nil, append_assoc}
 use Rattle.std.specs.Option.{option_map_or}
 use Rattle.std.proofs.lemmas.Option.{same_Some}
 use Rattle.std.specs.declared.cmp.Ordering.{Ordering}
 use Rattle.ev_rows.specs.KeyOrder.{KeyOrder}
-use Rattle.ev_rows.specs.Rows.{SortedByKey, fresh, gained, keys_of, lost, made_of, one_of, only_if, row_at, sift}
+use Rattle.ev_rows.specs.Rows.{SortedByKey, fresh, gained, keys_of, lost, made_of, one_of, only_if, row_at}
 use Rattle.ev_rows.proofs.RiseLemmas.{rise-sift, rise_tail}
 use Rattle.ev_rows.proofs.RowLemmas.{later_row, only_if-None, row_at-sift, row_at_head}
 use Rattle.ev_rows.proofs.ChangeLemmas.{fresh-same, gained_same, keyed_quiet, rise-gained, row_at-gained}
-use Rattle.ev_rows.proofs.SiftLemmas.{flat_map-sift, gained_sifts}
+use Rattle.ev_rows.proofs.SiftLemmas.{gained_sifts}
 use Rattle.ev_base.specs.Orders.{message_cmp, message_order, stream_cmp, stream_order, user_cmp, user_order}
 use Rattle.ev_base.specs.declared.ids.UserId.{UserId}
 use Rattle.ev_base.specs.declared.ids.StreamId.{StreamId}
@@ -22,7 +22,6 @@ use Rattle.ev_types.specs.declared.event.Event.{Event}
 use Rattle.ev_types.specs.declared.event.Event.TheVariants.{MessageGone, PeerAdd, PeerRemove, StreamCreate, StreamDelete, SubAdd, SubRemove}
 use Rattle.ev_types.specs.declared.rows.ShownMessage.{ShownMessage}
 use Rattle.ev_types.specs.declared.rows.ShownStream.{ShownStream}
-use Rattle.ev_types.specs.declared.rows.ShownSubscription.{ShownSubscription}
 use Rattle.zr_types.specs.declared.people.User.{User}
 use Rattle.zr_types.specs.declared.posts.Message.{Message}
 use Rattle.zr_types.specs.declared.posts.Receipt.{Receipt}
@@ -30,13 +29,13 @@ use Rattle.zr_types.specs.declared.streams.Stream.{Stream}
 use Rattle.zr_types.specs.declared.streams.Subscription.{Subscription}
 use Rattle.zr_types.specs.Sound.{TablesSorted}
 use Rattle.zr_types.specs.Tables.{Tables, message_at, receipt_of, stream_at, subscription_of, user_at}
-use Rattle.zr_types.specs.Visibility.{has_protected_history, is_public, is_among, is_subscribed, same_user, is_user, role_of, sees_at, sees_by, sees_message, sees_stream}
+use Rattle.zr_types.specs.Visibility.{has_protected_history, is_among, is_subscribed, same_user, is_user, role_of, sees_at, sees_by, sees_stream}
 use Rattle.zw_views.specs.RowViews.{message_in, stream_in, subscription_in}
-use Rattle.zw_views.specs.Views.{has_message, messages, peers, reactions, realm_users, shown_message, shown_realm, shown_stream, shown_subscription, streams, subscriptions, view_of}
+use Rattle.zw_views.specs.Views.{messages, peers, reactions, realm_users, shown_message, shown_realm, shown_stream, shown_subscription, streams, subscriptions, view_of}
 use Rattle.nt_rules.specs.Parts.{gained_peers, lost_peers}
 use Rattle.nt_rules.proofs.Alike.{AlikeWhereKept, keyed_alike}
 use Rattle.nt_rules.proofs.FieldsStay.{realm_stays, stream_stays, subscription_stays}
-use Rattle.nt_rules.proofs.PeerChanges.{flat_map_keys, flat_map_same, peers_by_stream, peers_change}
+use Rattle.nt_rules.proofs.PeerChanges.{flat_map_keys, flat_map_same, peers_change}
 use Rattle.nt_rules.proofs.Sight.{has_shown, sift_same, sight_changes, whole_message}
 use Rattle.nt_rules.proofs.Six.{six}
 use Rattle.nt_people.specs.PeopleParts.{arrived, message_sight, opened, opens, opens_place, stream_sight}
@@ -82,8 +81,12 @@ module _ (before : Tables) (rise : TablesSorted before) (users : List (UserId ×
 
   pub still_rise : TablesSorted with_users
   still_rise = record {
-    users = users_rise; streams = rise.streams; subscriptions = rise.subscriptions;
-    messages = rise.messages; receipts = rise.receipts; reactions = rise.reactions;
+    users = users_rise;
+    streams = rise.streams;
+    subscriptions = rise.subscriptions;
+    messages = rise.messages;
+    receipts = rise.receipts;
+    reactions = rise.reactions;
   }
 
   module _ (user : UserId) where
@@ -255,7 +258,7 @@ module _ (before : Tables) (rise : TablesSorted before) (users : List (UserId ×
           map_agree message_order (full_message (reactions with_users user)) (full_message before.reactions)
           (gained message_cmp (messages before user) (messages with_users user)) (rise-gained message_cmp (messages before user) (messages with_users user) messages_rise)
           (λ q v is. whole_message with_users still_rise user (q, v)
-              (has_shown with_users still_rise user q (there q v (row_at message_cmp (messages before user) q) (row_at message_cmp (messages with_users user) q) (sym (row_at-gained message_order (messages before user) (messages with_users user) messages_rise q) ∙ is))))
+          (has_shown with_users still_rise user q (there q v (row_at message_cmp (messages before user) q) (row_at message_cmp (messages with_users user) q) (sym (row_at-gained message_order (messages before user) (messages with_users user) messages_rise q) ∙ is))))
         where
           there : (q : MessageId) (v : ShownMessage) (a b : Option ShownMessage) → fresh a b ≡ Some v → is_some b ≡ true
           there q v None None is = cc

@@ -1,16 +1,13 @@
 -- Where a user's role stays, nothing comes or goes.
-use Rattle.std.proofs.Common.{◌≡◌, Bool, true, false, not, ◌&&◌, List, [], ◌∷◌, ◌++◌, flat_map, Option, None, Some, option_map, sym, ap, refl, ◌∙◌}
+use Rattle.std.proofs.Common.{◌≡◌, Bool, true, false, not, ◌&&◌, List, [], ◌∷◌, Option, None, Some, option_map, ap, refl, ◌∙◌}
 use Rattle.std.specs.List.{cons_option}
-use Rattle.ev_rows.specs.Rows.{SortedByKey, keys_of, one_of, only_if, sift}
+use Rattle.ev_rows.specs.Rows.{only_if, sift}
 use Rattle.ev_rows.proofs.RowLemmas.{only_if-None}
 use Rattle.ev_base.specs.declared.ids.UserId.{UserId}
 use Rattle.ev_base.specs.declared.ids.MessageId.{MessageId}
 use Rattle.ev_base.specs.declared.kinds.Role.{Role}
 use Rattle.ev_base.specs.declared.place.Place.{Place}
 use Rattle.ev_base.specs.declared.place.Place.TheVariants as place
-use Rattle.ev_types.specs.Changes.{arrivals}
-use Rattle.ev_types.specs.declared.event.Event.{Event}
-use Rattle.ev_types.specs.declared.rows.ShownStream.{ShownStream}
 use Rattle.zr_types.specs.Tables.{Tables, receipt_of, stream_at}
 use Rattle.zr_types.specs.Visibility.{is_subscribed, sees_by}
 use Rattle.zw_views.specs.Views.{shown_message, shown_stream}

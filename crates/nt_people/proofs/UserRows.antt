@@ -1,5 +1,5 @@
 -- What a change of one user's row makes of the users that are shown, of roles and of subscribers.
-use Rattle.std.proofs.Common.{◌≡◌, Bool, true, false, ◌&&◌, cond, List, [], ◌∷◌, ◌++◌, map, Option, None, Some, is_some, option_map, option_and_then, sym, ap, refl, ◌∙◌, append-nil}
+use Rattle.std.proofs.Common.{◌≡◌, Bool, true, false, ◌&&◌, cond, List, [], map, Option, None, Some, option_map, option_and_then, sym, ap, refl, ◌∙◌, append-nil}
 use Rattle.std.specs.BTreeMap.{is_at}
 use Rattle.ev_rows.specs.Rows.{AgreeBut, SortedByKey, events_at, made_of, only_if, row_at, sift}
 use Rattle.ev_rows.proofs.RiseLemmas.{rise-sift}
@@ -13,8 +13,7 @@ use Rattle.ev_types.specs.declared.event.Event.{Event}
 use Rattle.ev_types.specs.declared.event.Event.TheVariants.{UserAdd}
 use Rattle.ev_types.specs.declared.rows.ShownUser.{ShownUser}
 use Rattle.zr_types.specs.declared.people.User.{User}
-use Rattle.zr_types.specs.Effects.{changed_at, with_user}
-use Rattle.zr_types.specs.Sound.{TablesSorted}
+use Rattle.zr_types.specs.Effects.{with_user}
 use Rattle.zr_types.specs.Tables.{Tables, user_at}
 use Rattle.zr_types.specs.Visibility.{is_subscribed, role_of}
 use Rattle.zr_types.proofs.ChangedRows.{rise-changed_at, row_at-changed_at}

@@ -18,6 +18,7 @@ use Rattle.ev_types.specs.declared.notice.Audience.TheVariants.{Everyone, Only}
 use Rattle.ev_types.specs.declared.notice.Part.{Part}
 use Rattle.ev_types.specs.declared.rows.ShownMessage.{ShownMessage}
 use Rattle.ev_types.specs.declared.rows.ShownStream.{ShownStream}
+use Rattle.ev_types.specs.declared.rows.ShownUser.{ShownUser}
 use Rattle.nt_rules.specs.Parts.{to, viewers}
 use Rattle.zr_types.specs.declared.command.NameField.{NameField}
 use Rattle.zr_types.specs.declared.command.NameField.TheVariants as field
@@ -100,12 +101,21 @@ realm_parts row field.Name value = to Everyone (unless (bytes_eq row.name value)
 realm_parts row field.Description value =
     to Everyone (unless (bytes_eq row.description value) (event.RealmUpdate (realm_field.Description value)))
 
+-- a new user, who is active, as shown
+abbrev pub new_row : List ℕ → List ℕ → Role → ShownUser
+new_row email full_name role = record { email = email; full_name = full_name; role = role; is_active = true }
+
+-- what everyone is told of a new user, and the new user of the streams that it sees
+abbrev pub new_user_parts : Tables → ShownUser → List Part
+new_user_parts tables row =
+    to Everyone (event.UserAdd (next_user tables) row ∷ [])
+    ++ to (Only (next_user tables ∷ [])) (stream_sight tables (next_user tables) None (Some row.role))
+
 -- the parts of each command's notice
 abbrev pub people_parts : Tables → PeopleCommand → List Part
 people_parts tables (of_people.RealmUpdate property value) = realm_parts tables.realm property value
 people_parts tables (of_people.UserAdd email full_name role key) =
-    to Everyone (event.UserAdd (next_user tables) (record { email = email; full_name = full_name; role = role; is_active = true }) ∷ [])
-    ++ to (Only (next_user tables ∷ [])) (stream_sight tables (next_user tables) None (Some role))
+    new_user_parts tables (new_row email full_name role)
 people_parts tables (of_people.UserUpdate user full_name) = made_of (name_parts tables user full_name) (user_at tables user)
 people_parts tables (of_people.UserRole user role) = made_of (role_parts tables user role) (user_at tables user)
 people_parts tables (of_people.UserDeactivate user) = made_of (active_parts tables user false) (user_at tables user)

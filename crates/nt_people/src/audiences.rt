@@ -26,11 +26,7 @@ pub fn push_to_everyone(parts: &mut Vec<Part>, event: Event) -> Result<(), NoMem
 }
 
 /// Adds a part for each event, which one user alone hears.
-pub fn push_to_one(
-    parts: &mut Vec<Part>,
-    user: UserId,
-    events: Vec<Event>,
-) -> Result<(), NoMemory>
+pub fn push_to_one(parts: &mut Vec<Part>, user: UserId, events: Vec<Event>) -> Result<(), NoMemory>
     ensures { IfOk result (λ _. parts.new.items
         ≡ parts.old.items ++ to (Audience.Only (user ∷ [])) events.items) }
 {

@@ -28,8 +28,8 @@ pub fn notice(alloc: Global, before: &Realm, change: &Change) -> Result<Notice, 
     ensures ends { IfOk result (λ notice. notice.ends ≡ deactivated_by change.now.command) }
     ensures tells { (command : Command) → IsChangeOf before.now.state command change.now
         → IfOk result (λ notice. (user : UserId) → events_for user notice
-        ≡ changes_between (view_of before.now.state.tables user)
-        (view_of (after_command change.now.actor change.now.moment command before.now.state).tables user)) }
+        ≡ changes_between (view_of before.now.state.tables user) (view_of (after_command
+        change.now.actor change.now.moment command before.now.state).tables user)) }
 {
     tables_are_sorted(before);
     tables_are_sound(before);

@@ -1,13 +1,10 @@
 //! The parts of each command of people.
 
-ghost use Rattle.std.specs.Prelude.{◌≡◌, ◌<◌, ◌+◌, ◌^◌, [], ◌∷◌, ◌++◌, flat_map, length, IfOk, None, Some, true};
+ghost use Rattle.std.specs.Prelude.{◌≡◌, ◌<◌, ◌+◌, ◌^◌, ◌++◌, flat_map, length, IfOk};
 ghost use Rattle.ev_rows.specs.Rows.{made_of};
-ghost use Rattle.ev_types.specs.declared.event.Event.{Event};
-ghost use Rattle.ev_types.specs.declared.notice.Audience.{Audience};
-ghost use Rattle.nt_rules.specs.Parts.{to};
 ghost use Rattle.zr_types.specs.Effects.{next_user};
 ghost use Rattle.zr_types.specs.Tables.{user_at};
-ghost use Rattle.nt_people.specs.PeopleParts.{active_parts, message_sight, name_parts, peer_part, realm_parts, role_change_parts, role_parts, stream_sight};
+ghost use Rattle.nt_people.specs.PeopleParts.{active_parts, name_parts, new_row, new_user_parts, peer_part, realm_parts, role_change_parts, role_parts};
 
 use crate::audiences::{push_to_everyone, push_to_one, push_to_viewers};
 use crate::sight::{push_message_sight, push_stream_sight};
@@ -75,10 +72,7 @@ pub fn push_new_user(
 ) -> Result<(), NoMemory>
     requires { length realm.now.state.tables.users + 1 < 2 ^ 32 }
     ensures { IfOk result (λ _. parts.new.items ≡ parts.old.items
-        ++ (to Audience.Everyone (Event.UserAdd (next_user realm.now.state.tables)
-        (record { email = email.now; full_name = full_name.now; role = role; is_active = true }) ∷ [])
-        ++ to (Audience.Only (next_user realm.now.state.tables ∷ []))
-        (stream_sight realm.now.state.tables (next_user realm.now.state.tables) None (Some role)))) }
+        ++ new_user_parts realm.now.state.tables (new_row email.now full_name.now role)) }
 {
     let user = next_user(realm);
     let row = new_row(email, full_name, role)?;
@@ -98,7 +92,7 @@ fn next_user(realm: &Realm) -> UserId
 
 // A new user, who is active.
 fn new_row(email: &Text, full_name: &Text, role: Role) -> Result<ShownUser, NoMemory>
-    ensures { IfOk result (λ row. row ≡ record { email = email.now; full_name = full_name.now; role = role; is_active = true }) }
+    ensures { IfOk result (λ row. row ≡ new_row email.now full_name.now role) }
 {
     Ok(ShownUser {
         email: email.clone()?,

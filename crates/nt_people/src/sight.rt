@@ -47,7 +47,8 @@ fn push_subscribers(
     events: &mut Vec<Event>,
 ) -> Result<(), NoMemory>
     ensures { IfOk result (λ _. events.new.items ≡ events.old.items
-        ++ flat_map (λ stream. one_of (Event.PeerAdd stream) (keys_of (peers realm.now.state.tables stream))) streams.now) }
+        ++ flat_map (λ stream. one_of (Event.PeerAdd stream)
+        (keys_of (peers realm.now.state.tables stream))) streams.now) }
 {
     for stream in streams {
         push_subscribers_of(realm, *stream, events)?;

@@ -1,5 +1,4 @@
 use Rattle.std.proofs.Common.{◌≡◌, ◌∙◌, IfOk, ap, subst, rules}
-use Rattle.std.proofs.lemmas.Result.{IfOk-equal}
 use Rattle.std.specs.Prelude.{List, ⊤}
 use Rattle.ev_rows.specs.Rows.{keys_of, sift}
 use Rattle.ev_base.specs.declared.ids.UserId.{UserId}

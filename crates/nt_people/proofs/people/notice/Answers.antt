@@ -1,4 +1,4 @@
-use Rattle.std.proofs.Common.{◌≡◌, ◌∙◌, ◌<◌, ap, arith, subst, sym}
+use Rattle.std.proofs.Common.{◌∙◌, ◌<◌, ap, arith, subst, sym}
 use Rattle.ev_types.specs.Changes.{changes_between}
 use Rattle.nt_rules.specs.Parts.{heard_of}
 use Rattle.zr_realm.proofs.Outcome.{commits_fit, ready}

@@ -13,6 +13,6 @@ returns c =
     let deleted = c.in_ok-push_one_of-2.ensures StreamDelete (λ list made called. search rules) in
     let second = deleted ∙ ap (λ keys. c.push_one_of.new.events.items ++ one_of StreamDelete keys) (c.in_ok-deleted-2.ensures ∙ ap keys_of c.in_ok-deleted.ensures) in
     let last = IfOk-equal _ _ _ _ c.push_subscribers.ensures
-        (ap (λ streams. c.push_one_of-2.new.events.items ++ flat_map (λ stream. one_of (PeerAdd stream) (keys_of (peers c.args.realm.now.state.tables stream))) streams)
-        (c.deref.ensures.value ∙ c.in_ok-streams.ensures ∙ ap keys_of c.in_ok-created.ensures)) in
+    (ap (λ streams. c.push_one_of-2.new.events.items ++ flat_map (λ stream. one_of (PeerAdd stream) (keys_of (peers c.args.realm.now.state.tables stream))) streams)
+    (c.deref.ensures.value ∙ c.in_ok-streams.ensures ∙ ap keys_of c.in_ok-created.ensures)) in
     joined_last _ _ _ _ _ (joined _ _ _ _ _ first second) _ last
