@@ -18,12 +18,14 @@ mod reactions;
 mod streams;
 
 use compared::ComparedView;
-use differences::{gained_keys, push_kept, push_one_of};
+pub use differences::push_one_of;
+use differences::{gained_keys, push_kept};
 use ev_base::NoMemory;
 use ev_types::{Event, State};
 use flags::push_flags;
 use kept::kept_messages;
 use messages::push_arrivals;
+pub use messages::{push_all_new, with_reactions};
 use moves::push_moves;
 use peers::push_peers;
 use people::{push_realm, push_users};

@@ -10,3 +10,5 @@ mod subscribers;
 
 pub use fault::FetchFault;
 pub use fetching::{fetch, fetch_all, whole_view};
+pub use shown::{shown_message, shown_stream, shown_user};
+pub use sift::sifted;

@@ -2,8 +2,8 @@
 
 ghost use Rattle.std.specs.Prelude.{◌≡◌, ◌++◌, filter, map, IfOk};
 ghost use Rattle.std.specs.BTreeMap.{is_at};
-ghost use Rattle.ev_rows.specs.Rows.{gained};
-ghost use Rattle.ev_base.specs.Orders.{message_cmp};
+ghost use Rattle.ev_rows.specs.Rows.{SortedByKey, gained};
+ghost use Rattle.ev_base.specs.Orders.{message_cmp, reaction_cmp};
 ghost use Rattle.ev_types.specs.Changes.{arrivals, edits, full_message};
 
 use super::differences::{Changing, gained_rows, push_change};
@@ -15,6 +15,8 @@ use std::alloc::Global;
 type Messages = Keyed<MessageId, ShownMessage>;
 
 type Reactions = Keyed<(MessageId, UserId, Text), ()>;
+
+type ReactionRow = ((MessageId, UserId, Text), ());
 
 /// Adds the new messages with their reactions: one alone, or several restored.
 pub fn push_arrivals(
@@ -29,19 +31,20 @@ pub fn push_arrivals(
     let alloc = *events.allocator();
     let mut messages = Vec::new(alloc);
     for (message, row) in gained_rows(alloc, before, after)? {
-        messages.push(with_reactions(alloc, reactions, message, row)?)?;
+        messages.push(with_reactions(alloc, reactions.rows(), message, row)?)?;
     }
     push_all_new(events, messages)
 }
 
-// The message with its reactions.
-fn with_reactions(
+/// The message with its reactions, of those given.
+pub fn with_reactions(
     alloc: Global,
-    reactions: &Reactions,
+    reactions: &[ReactionRow],
     message: MessageId,
     row: ShownMessage,
 ) -> Result<FullMessage, NoMemory>
-    ensures { IfOk result (λ full. full ≡ full_message reactions.now.rows (message, row)) }
+    requires { SortedByKey reaction_cmp reactions.now }
+    ensures { IfOk result (λ full. full ≡ full_message reactions.now (message, row)) }
 {
     let mut told = Vec::new(alloc);
     for (key, _) in reactions_to(reactions, message) {
@@ -55,13 +58,15 @@ fn with_reactions(
 }
 
 // The reactions to one message.
-fn reactions_to(reactions: &Reactions, message: MessageId) -> &[((MessageId, UserId, Text), ())]
-    ensures { result.now ≡ filter (λ row. is_at (message_cmp message) row.0.0) reactions.now.rows }
+fn reactions_to(reactions: &[ReactionRow], message: MessageId) -> &[ReactionRow]
+    requires { SortedByKey reaction_cmp reactions.now }
+    ensures { result.now ≡ filter (λ row. is_at (message_cmp message) row.0.0) reactions.now }
 {
-    rows_under(reactions.rows(), message.0)
+    rows_under(reactions, message.0)
 }
 
-fn push_all_new(events: &mut Vec<Event>, mut messages: Vec<FullMessage>) -> Result<(), NoMemory>
+/// Adds the event of new messages: of one alone, or of several restored.
+pub fn push_all_new(events: &mut Vec<Event>, mut messages: Vec<FullMessage>) -> Result<(), NoMemory>
     ensures { IfOk result (λ _. events.new.items ≡ events.old.items ++ arrivals messages.items) }
 {
     if messages.len() > 1 {

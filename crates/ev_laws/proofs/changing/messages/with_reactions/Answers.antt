@@ -17,4 +17,4 @@ returns c =
     ap with
     (c.from_vec.ensures ∙ c.loop-key.invariant
     ∙ ap (map told) (take_whole rows c.loop-key.key-index (omega arith) ∙ c.reactions_to-key-items.ensures)
-    ∙ map_filter (λ row. is_at (message_cmp c.args.message) row.0.0) told c.args.reactions.now.rows)
+    ∙ map_filter (λ row. is_at (message_cmp c.args.message) row.0.0) told c.args.reactions.now)

@@ -1,0 +1,2 @@
+pub mod PeopleParts
+pub mod Shown

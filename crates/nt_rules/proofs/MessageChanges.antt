@@ -1,0 +1,39 @@
+-- The changes of messages, where those that stay are as they were.
+use Rattle.std.proofs.Common.{◌≡◌, true, List, [], ◌++◌, map, sym, refl, append-nil}
+use Rattle.ev_rows.specs.Rows.{SortedByKey, gained, keys_of, lost, one_of, row_at}
+use Rattle.ev_base.specs.Orders.{message_cmp, message_order, reaction_cmp, reaction_order}
+use Rattle.ev_types.specs.declared.event.Event.{Event}
+use Rattle.ev_types.specs.declared.event.Event.TheVariants.{MessageGone}
+use Rattle.ev_types.specs.Changes.{arrivals, edits, full_message, is_kept, message_events, reaction_events}
+use Rattle.ev_types.specs.Sections.{ReactionKey, Sections}
+use Rattle.nt_rules.specs.Laws.{come_and_go}
+use Rattle.nt_rules.proofs.Alike.{AlikeWhereKept, kept_twins, none_gained, staying, twins_quiet}
+use Rattle.nt_rules.proofs.FieldsStay.{content_stays, no_flags, no_moves}
+
+-- messages come and go, and those that stay keep their reactions
+pub record MessagesStay (before after : Sections) : Type 0 where
+  pub rises : SortedByKey message_cmp after.messages
+  pub old_reactions : SortedByKey reaction_cmp before.reactions
+  pub new_reactions : SortedByKey reaction_cmp after.reactions
+  pub alike : AlikeWhereKept message_cmp before.messages after.messages
+  pub reactions : (key : ReactionKey) → is_kept before after key.0 ≡ true → row_at reaction_cmp before.reactions key ≡ row_at reaction_cmp after.reactions key
+
+no_reactions : (before after : Sections) → MessagesStay before after → reaction_events before after ≡ []
+no_reactions before after stay =
+    rw (
+      none_gained reaction_order (λ key. is_kept before after key.0) before.reactions after.reactions stay.new_reactions stay.reactions,
+      none_gained reaction_order (λ key. is_kept before after key.0) after.reactions before.reactions stay.old_reactions (λ key is. sym (stay.reactions key is)),
+    ) refl
+
+pub messages_stay : (before after : Sections) → MessagesStay before after → message_events before after ≡ come_and_go before after
+messages_stay before after stay =
+    let first = arrivals (map (full_message after.reactions) (gained message_cmp before.messages after.messages)) in
+    let last = one_of MessageGone (keys_of (lost message_cmp before.messages after.messages)) in
+    rw (kept_twins message_order before.messages after.messages stay.rises stay.alike)
+    (rw (
+      no_moves (staying message_order before.messages after.messages),
+      twins_quiet edits content_stays (staying message_order before.messages after.messages),
+      no_flags (staying message_order before.messages after.messages),
+      no_reactions before after stay,
+    )
+    (simp append-nil))

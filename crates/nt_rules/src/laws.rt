@@ -1,0 +1,23 @@
+//! The laws, each the contract of a function that does nothing.
+
+ghost use Rattle.nt_rules.specs.Laws.{MessagesComeAndGo, PartsAreHeard, PeersChangeByStream, ViewersSee};
+
+/// Where messages, receipts and reactions stay, a user's messages only come and go.
+pub fn messages_come_and_go()
+    ensures { MessagesComeAndGo }
+{}
+
+/// A user is told of subscribers stream by stream.
+pub fn peers_change_by_stream()
+    ensures { PeersChangeByStream }
+{}
+
+/// Of parts with one audience a user hears all or nothing.
+pub fn parts_are_heard()
+    ensures { PartsAreHeard }
+{}
+
+/// The viewers of a stream are those who see it.
+pub fn viewers_see()
+    ensures { ViewersSee }
+{}
