@@ -1,5 +1,5 @@
 -- Each field of a head has three bytes or more.
-use Rattle.std.proofs.Common.{◌≡◌, ℕ, ◌+◌, ◌*◌, ◌≤◌, List, [], ◌∷◌, ◌++◌, length, arith, ap, length-append, ◌∙◌}
+use Rattle.std.proofs.Common.{◌≡◌, ℕ, ◌+◌, ◌*◌, ◌<◌, ◌≤◌, List, [], ◌∷◌, ◌++◌, length, arith, ap, length-append, ◌∙◌}
 use Rattle.std.specs.Prelude.{All}
 use Rattle.std.specs.List.{flat_map}
 use Rattle.std.proofs.lemmas.List.Elements.{All-head, All-tail}
@@ -34,6 +34,15 @@ head_long h all =
     let section : List ℕ = flat_map print_field h.fields ++ print_end h.last in
     let whole : length (print_request h) ≡ length start + length section = length-append start section in
     omega (arith, whole, fields_long h.fields all, length-append (flat_map print_field h.fields) (print_end h.last))
+
+-- a head has bytes
+pub some_head : (h : RequestHead) → 0 < length (print_request h)
+unfolding print_request
+some_head h =
+    let start = print_blank h.blank ++ h.method ++ space ∷ h.target ++ space ∷ print_version h.minor ++ print_end h.line_end in
+    let section : List ℕ = flat_map print_field h.fields ++ print_end h.last in
+    let whole : length (print_request h) ≡ length start + length section = length-append start section in
+    omega (arith, whole, end_long h.last, length-append (flat_map print_field h.fields) (print_end h.last))
 
 -- no head of 16,384 bytes has more fields than the room
 pub no_excess : (bytes : List ℕ) → length bytes ≤ 16384 → RequestExceeds 5462 bytes → ⊥
