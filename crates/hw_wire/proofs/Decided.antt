@@ -16,7 +16,8 @@ front : (a b c d : List ℕ) → a ++ b ≡ c ++ d → length c ≤ length a →
 front a b c d same few =
     let n = length c in
     sym (take-append-drop n a)
-    ∙ ap (λ t. t ++ drop n a) (sym (take-append-le n a b few) ∙ ap (λ t. take n t) same ∙ take-append_seam c d)
+    ∙ ap (λ t. t ++ drop n a)
+    (sym (take-append-le n a b few) ∙ ap (λ t. take n t) same ∙ take-append_seam c d)
 
 -- a head that begins some of the bytes is the one that begins all
 same_head : (all bytes left rest others : List ℕ) (head other : RequestHead) → all ≡ bytes ++ left
@@ -33,25 +34,33 @@ refused fault all bytes left rest head cut begins is =
 
 ended : (all rest : List ℕ) (head : RequestHead) → BeginsWith all head rest → all ≡ [] → ⊥
 ended all rest head begins none =
-    absurd (omega (arith, some_head head, ap (λ t. length t) none, ap (λ t. length t) begins.spelled,
-    length-append (print_request head) rest))
+    absurd (omega (
+      arith,
+      some_head head,
+      ap (λ t. length t) none,
+      ap (λ t. length t) begins.spelled,
+      length-append (print_request head) rest,
+    ))
 
 in_body : (all bytes rest : List ℕ) (head : RequestHead) → all ≡ bytes → BeginsWith all head rest
     → IsCut bytes → (wanted : ℕ) × (announced head ≡ Ok wanted) × (length rest < wanted)
 in_body all bytes rest head cut begins (inl (some, few, inside)) =
     absurd (inside.0 head rest (begins.valid, sym cut ∙ begins.spelled))
 in_body all bytes rest head cut begins (inr body) =
-    let same = same_head all bytes [] rest body.rest head body.head (cut ∙ sym (append-nil bytes)) begins body.begins in
+    let whole = cut ∙ sym (append-nil bytes) in
+    let same = same_head all bytes [] rest body.rest head body.head whole begins body.begins in
     let few : length rest < body.wanted =
-        omega (arith, body.few, ap (λ t. length t) same.1, length-append body.rest []) in
+    omega (arith, body.few, ap (λ t. length t) same.1, length-append body.rest []) in
     (body.wanted, sym (ap announced same.0) ∙ body.announced, few)
 
 bad_head : (all bytes left rest : List ℕ) (head : RequestHead) → all ≡ bytes ++ left
-    → BeginsWith all head rest → ((length bytes ≤ 16384) × NeverHasRequest bytes) ⊎ IsRefused fault.BadHead bytes
+    → BeginsWith all head rest
+    → ((length bytes ≤ 16384) × NeverHasRequest bytes) ⊎ IsRefused fault.BadHead bytes
     → announced head ≡ Err fault.BadHead
 bad_head all bytes left rest head cut begins (inl (few, never)) =
     absurd (never left head rest (begins.valid, sym cut ∙ begins.spelled))
-bad_head all bytes left rest head cut begins (inr is) = refused fault.BadHead all bytes left rest head cut begins is
+bad_head all bytes left rest head cut begins (inr is) =
+    refused fault.BadHead all bytes left rest head cut begins is
 
 too_long : (all bytes left rest : List ℕ) (head : RequestHead) → all ≡ bytes ++ left
     → BeginsWith all head rest → length bytes ≡ 16384 → HasNoRequest bytes → ⊥
@@ -61,10 +70,11 @@ too_long all bytes left rest head cut begins size none =
 
 pub decided : HeadsDecide
 decided all rest head (Request request) bytes kept left begins cut ends =
-    let same = same_head all bytes left rest _ head ends.head cut begins ends.begins in
-    (subst (λ h. Says h _ _ _ _) same.0 ends.says,
-    sym (ap announced same.0) ∙ ends.announced,
-    sym same.1 ∙ append_assoc request.body.items kept left)
+    let same = same_head all bytes left rest _ head ends.head cut begins ends.begins in (
+      subst (λ h. Says h _ _ _ _) same.0 ends.says,
+      sym (ap announced same.0) ∙ ends.announced,
+      sym same.1 ∙ append_assoc request.body.items kept left,
+    )
 decided all rest head End bytes kept left begins cut ends =
     ended all rest head begins (cut ∙ ap (λ t. t ++ left) ends.0 ∙ ends.1)
 decided all rest head Cut bytes kept left begins cut ends =

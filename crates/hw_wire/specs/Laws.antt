@@ -16,7 +16,8 @@ announced head = body_length head.minor (pairs head)
 -- stands behind a request
 abbrev pub IsDecided : ReadEnd → RequestHead → List ℕ → List ℕ → Type 0
 IsDecided (Request request) head rest behind =
-    Says head request.method request.target.items (option_map (λ value. value.items) request.authorization) request.close
+    Says head request.method request.target.items
+    (option_map (λ value. value.items) request.authorization) request.close
     × (announced head ≡ Ok (length request.body.items)) × (rest ≡ request.body.items ++ behind)
 IsDecided End head rest behind = ⊥
 IsDecided Cut head rest behind = (wanted : ℕ) × (announced head ≡ Ok wanted) × (length rest < wanted)
