@@ -1,5 +1,5 @@
 -- Each field of a head has three bytes or more.
-use Rattle.std.proofs.Common.{◌≡◌, ℕ, ◌+◌, ◌*◌, ◌≤◌, List, [], ◌∷◌, ◌++◌, length, arith, ap, length-append, ◌∙◌}
+use Rattle.std.proofs.Common.{◌≡◌, ℕ, ◌+◌, ◌*◌, ◌<◌, ◌≤◌, List, [], ◌∷◌, ◌++◌, length, arith, ap, length-append, ◌∙◌}
 use Rattle.std.specs.Prelude.{All}
 use Rattle.std.specs.List.{flat_map}
 use Rattle.std.proofs.lemmas.List.Elements.{All-head, All-tail}
@@ -19,21 +19,40 @@ field_long f is =
     let e = print_end f.end in
     let more : length (colon ∷ f.raw) ≡ 1 + length f.raw = omega arith in
     let whole : length (print_field f) ≡ length f.name + length (colon ∷ f.raw) + length e =
-    length-append (f.name ++ colon ∷ f.raw) e ∙ ap (λ n. n + length e) (length-append f.name (colon ∷ f.raw)) in
+    length-append (f.name ++ colon ∷ f.raw) e ∙ ap (λ n. n + length e)
+    (length-append f.name (colon ∷ f.raw)) in
     omega (arith, end_long f.end, is.name.0, more, whole)
 
-fields_long : (fields : List Field) → All IsField fields → 3 * length fields ≤ length (flat_map print_field fields)
+fields_long : (fields : List Field) → All IsField fields
+    → 3 * length fields ≤ length (flat_map print_field fields)
 fields_long [] all = omega arith
 fields_long (f ∷ fs) all =
-    omega (arith, field_long f (All-head IsField f fs all), fields_long fs (All-tail IsField f fs all), length-append (print_field f) (flat_map print_field fs))
+    omega (
+      arith,
+      field_long f (All-head IsField f fs all),
+      fields_long fs (All-tail IsField f fs all),
+      length-append (print_field f) (flat_map print_field fs),
+    )
 
-head_long : (h : RequestHead) → All IsField h.fields → 3 * length h.fields ≤ length (print_request h)
+-- the fields and the last line of a head are a part of it
+section_fits : (h : RequestHead)
+    → length (flat_map print_field h.fields) + length (print_end h.last) ≤ length (print_request h)
 unfolding print_request
-head_long h all =
-    let start = print_blank h.blank ++ h.method ++ space ∷ h.target ++ space ∷ print_version h.minor ++ print_end h.line_end in
+section_fits h =
+    let start = print_blank h.blank ++ h.method ++ space ∷ h.target ++ space ∷ print_version h.minor
+    ++ print_end h.line_end in
     let section : List ℕ = flat_map print_field h.fields ++ print_end h.last in
-    let whole : length (print_request h) ≡ length start + length section = length-append start section in
-    omega (arith, whole, fields_long h.fields all, length-append (flat_map print_field h.fields) (print_end h.last))
+    let whole : length (print_request h) ≡ length start + length section =
+    length-append start section in
+    omega (arith, whole, length-append (flat_map print_field h.fields) (print_end h.last))
+
+head_long : (h : RequestHead) → All IsField h.fields
+    → 3 * length h.fields ≤ length (print_request h)
+head_long h all = omega (arith, section_fits h, fields_long h.fields all)
+
+-- a head has bytes
+pub some_head : (h : RequestHead) → 0 < length (print_request h)
+some_head h = omega (arith, section_fits h, end_long h.last)
 
 -- no head of 16,384 bytes has more fields than the room
 pub no_excess : (bytes : List ℕ) → length bytes ≤ 16384 → RequestExceeds 5462 bytes → ⊥

@@ -1,3 +1,4 @@
 pub mod Buffers
+pub mod Decided
 pub mod Lengths
 pub mod ShortBodies

@@ -34,7 +34,8 @@ pub record Says
 pub record IsTaken (taken : Head) (old new : List ℕ) : Type 0 where
   pub head : RequestHead
   pub begins : BeginsWith old head new
-  pub says : Says head taken.method taken.target.items (option_map (λ value. value.items) taken.authorization) taken.close
+  pub says : Says head taken.method taken.target.items
+      (option_map (λ value. value.items) taken.authorization) taken.close
   pub announced : body_length head.minor (pairs head) ≡ Ok taken.length
 
 -- a head begins the bytes, and this is the first thing that is wrong with it
@@ -56,7 +57,8 @@ TakesHead (Err HeadNoMemory) old new = ⊤
 pub record IsRequest (request : Request) (bytes kept : List ℕ) : Type 0 where
   pub head : RequestHead
   pub begins : BeginsWith bytes head (request.body.items ++ kept)
-  pub says : Says head request.method request.target.items (option_map (λ value. value.items) request.authorization) request.close
+  pub says : Says head request.method request.target.items
+      (option_map (λ value. value.items) request.authorization) request.close
   pub announced : body_length head.minor (pairs head) ≡ Ok (length request.body.items)
 
 -- the bytes may begin a head, but hold none

@@ -26,7 +26,8 @@ pub fn read_body<L: Link>(
     link: &mut L,
     wanted: usize,
 ) -> BodyEnd
-    ensures reads { ReadsBody result wanted (L.left link.old) (L.left link.new) (kept_of reader.old) (kept_of reader.new) }
+    ensures reads { ReadsBody result wanted (L.left link.old) (L.left link.new)
+        (kept_of reader.old) (kept_of reader.new) }
     ensures held { L.held link.new ≡ L.held link.old }
     ensures count { L.faults link.old ≤ L.faults link.new }
     ensures cause { result ≡ BodyEnd.Fault → Rose (L.faults link.old) (L.faults link.new) }
@@ -51,7 +52,8 @@ pub fn read_body<L: Link>(
 // Takes as many of the kept bytes as the body still wants.
 fn take_kept(reader: &mut Reader, body: &mut Vec<u8>, wanted: usize) -> Result<(), AllocError>
     requires { length body.old.items ≤ wanted }
-    ensures { OnOk result (Moves wanted (body.old.items) (body.new.items) (kept_of reader.old) (kept_of reader.new)) }
+    ensures { OnOk result (Moves wanted body.old.items body.new.items
+        (kept_of reader.old) (kept_of reader.new)) }
 {
     let count = reader.pending().len().min(wanted - body.len());
     body.extend_from_slice(&reader.pending()[..count])?;

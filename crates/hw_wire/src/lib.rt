@@ -4,6 +4,7 @@
 mod bodies;
 mod fields;
 mod heads;
+pub mod laws;
 mod reader;
 mod requests;
 mod responses;

@@ -57,7 +57,8 @@ pub enum ReadEnd {
 /// Reads the next request of a link. Of several things that are wrong with a head the first in the
 /// order of `ReadEnd` counts.
 pub fn read_request<L: Link>(alloc: Global, reader: &mut Reader, link: &mut L) -> ReadEnd
-    ensures reads { ReadsRequest result (L.left link.old) (L.left link.new) (kept_of reader.old) (kept_of reader.new) }
+    ensures reads { ReadsRequest result (L.left link.old) (L.left link.new)
+        (kept_of reader.old) (kept_of reader.new) }
     ensures held { L.held link.new ≡ L.held link.old }
     ensures count { L.faults link.old ≤ L.faults link.new }
     ensures cause { result ≡ ReadEnd.ReadFault → Rose (L.faults link.old) (L.faults link.new) }

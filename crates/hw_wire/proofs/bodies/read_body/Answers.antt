@@ -8,7 +8,12 @@ pub body-init : goal.body-init
 body-init g c =
     let moves = c.in-Ok.ensures in
     record {
-      read = ([], Loses-nothing _, moves.all ∙ ap (λ xs. xs ++ kept_of c.args.reader.now) c.new-body.ensures.items ∙ sym (append-nil _));
+      read = (
+        [],
+        Loses-nothing _,
+        moves.all ∙ ap (λ xs. xs ++ kept_of c.args.reader.now) c.new-body.ensures.items
+            ∙ sym (append-nil _),
+      );
       within = moves.within;
       done = moves.done;
       held = refl;
@@ -22,7 +27,8 @@ returns-in-End-clause-reads g c =
     let few : length c.body.body.items < c.args.wanted = search (rules, arith) in
     record {
       more = inv.read.0;
-      took = subst (λ left. Loses (g.L.Link.left c.args.link.now) inv.read.0 left) (sym stays.0.still) inv.read.1;
+      took = subst (λ left. Loses (g.L.Link.left c.args.link.now) inv.read.0 left)
+          (sym stays.0.still) inv.read.1;
       ends = (short c.args.wanted _ _ _ inv.read.2 few inv.done, subst IsSpent (sym stays.0.still) stays.1);
     }
 
@@ -33,7 +39,8 @@ returns-in-Failed-clause-reads g c =
     let few : length c.body.body.items < c.args.wanted = search (rules, arith) in
     record {
       more = inv.read.0;
-      took = subst (λ left. Loses (g.L.Link.left c.args.link.now) inv.read.0 left) (sym stays.still) inv.read.1;
+      took = subst (λ left. Loses (g.L.Link.left c.args.link.now) inv.read.0 left)
+          (sym stays.still) inv.read.1;
       ends = short c.args.wanted _ _ _ inv.read.2 few inv.done;
     }
 

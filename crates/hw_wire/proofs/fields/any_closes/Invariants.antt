@@ -5,5 +5,6 @@ use Rattle.hw_wire.proofs.fields.any_closes.Given as goal
 
 abbrev pub invariant-loop-field : goal.invariant-loop-field
 invariant-loop-field l = record {
-  same : any_closes (map (header_bytes l.buffer) (drop l.field-index l.fields)) ≡ any_closes (map (header_bytes l.buffer) l.fields);
+  same : any_closes (map (header_bytes l.buffer) (drop l.field-index l.fields))
+      ≡ any_closes (map (header_bytes l.buffer) l.fields);
 }

@@ -8,5 +8,6 @@ pub returns : goal.returns
 unfolding has_close
 returns c =
     any_from_yields_List is_close _ _ _ c.any.ensures.ran
-    (YieldsList-from_slice_split _ (λ byte. byte == 44) c.args.value.now (cc) (cc) (cc) (λ x b q called. search (rules, tests)))
+    (YieldsList-from_slice_split _ (λ byte. byte == 44) c.args.value.now (cc) (cc) (cc)
+    (λ x b q called. search (rules, tests)))
     (λ x b q k. search (rules, tests))

@@ -5,5 +5,6 @@ use Rattle.hw_wire.proofs.fields.length_in.Given as goal
 
 abbrev pub invariant-loop-field : goal.invariant-loop-field
 invariant-loop-field l = record {
-  same : lengths l.known (map (header_bytes l.buffer) (drop l.field-index l.fields)) ≡ lengths None (map (header_bytes l.buffer) l.fields);
+  same : lengths l.known (map (header_bytes l.buffer) (drop l.field-index l.fields))
+      ≡ lengths None (map (header_bytes l.buffer) l.fields);
 }

@@ -5,5 +5,6 @@ use Rattle.hw_wire.proofs.fields.value_of.Given as goal
 
 abbrev pub invariant-loop-field : goal.invariant-loop-field
 invariant-loop-field l = record {
-  same : value_of l.name (map (header_bytes l.buffer) (drop l.field-index l.fields)) ≡ value_of l.name (map (header_bytes l.buffer) l.fields);
+  same : value_of l.name (map (header_bytes l.buffer) (drop l.field-index l.fields))
+      ≡ value_of l.name (map (header_bytes l.buffer) l.fields);
 }

@@ -58,10 +58,18 @@ pub returns-in-Fault-read_body-clause-reads : goal.returns-in-Fault-read_body-cl
 returns-in-Fault-read_body-clause-reads g c =
     let first = c.in-Whole.ensures.reads in
     let body = c.in-Fault-read_body.ensures.reads in
-    record { more = first.more ++ body.more; took = Loses-chain _ _ _ _ _ first.took body.took; ends = tt }
+    record {
+      more = first.more ++ body.more;
+      took = Loses-chain _ _ _ _ _ first.took body.took;
+      ends = tt;
+    }
 
 pub returns-in-NoMemory-clause-reads : goal.returns-in-NoMemory-clause-reads
 returns-in-NoMemory-clause-reads g c =
     let first = c.in-Whole.ensures.reads in
     let body = c.in-NoMemory.ensures.reads in
-    record { more = first.more ++ body.more; took = Loses-chain _ _ _ _ _ first.took body.took; ends = tt }
+    record {
+      more = first.more ++ body.more;
+      took = Loses-chain _ _ _ _ _ first.took body.took;
+      ends = tt;
+    }

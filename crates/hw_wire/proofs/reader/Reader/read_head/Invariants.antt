@@ -7,7 +7,8 @@ abbrev pub invariant-loop-spans : goal.invariant-loop-spans
 invariant-loop-spans g l = record {
   held : g.L.Link.held l.link ≡ g.L.Link.held l.initial.link;
   count : g.L.Link.faults l.initial.link ≤ g.L.Link.faults l.link;
-  read : (more : List ℕ) × Loses (g.L.Link.left l.initial.link) more (g.L.Link.left l.link) × (kept_of l.self ≡ kept_of l.initial.self ++ more);
+  read : (more : List ℕ) × Loses (g.L.Link.left l.initial.link) more (g.L.Link.left l.link)
+      × (kept_of l.self ≡ kept_of l.initial.self ++ more);
 }
 
 abbrev pub decreases-loop-spans : goal.decreases-loop-spans
