@@ -98,7 +98,8 @@ fn push_needed(
     requires whole { sections flow.now.parts ≡ flow.now.asked }
     requires ready { IsReady world.old (MayCatchUp shard (least_of flow.now) have) }
     ensures continues { Continues world.old world.new (MayCatchUp shard (least_of flow.now) have)
-        (OrStops result (λ reached before after. CatchesUp shard (least_of flow.now) have before reached after)) }
+        (OrStops result (λ reached before after.
+        CatchesUp shard (least_of flow.now) have before reached after)) }
     ensures shards { length world.new.shards ≡ length world.old.shards }
 {
     match flow.need(have) {
