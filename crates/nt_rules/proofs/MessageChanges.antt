@@ -1,8 +1,7 @@
 -- The changes of messages, where those that stay are as they were.
-use Rattle.std.proofs.Common.{◌≡◌, true, List, [], ◌++◌, map, sym, refl, append-nil}
+use Rattle.std.proofs.Common.{◌≡◌, true, [], map, sym, refl, append-nil}
 use Rattle.ev_rows.specs.Rows.{SortedByKey, gained, keys_of, lost, one_of, row_at}
 use Rattle.ev_base.specs.Orders.{message_cmp, message_order, reaction_cmp, reaction_order}
-use Rattle.ev_types.specs.declared.event.Event.{Event}
 use Rattle.ev_types.specs.declared.event.Event.TheVariants.{MessageGone}
 use Rattle.ev_types.specs.Changes.{arrivals, edits, full_message, is_kept, message_events, reaction_events}
 use Rattle.ev_types.specs.Sections.{ReactionKey, Sections}
