@@ -1,4 +1,5 @@
 pub mod Buffers
 pub mod Decided
+pub mod Headless
 pub mod Lengths
 pub mod ShortBodies

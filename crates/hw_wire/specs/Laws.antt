@@ -1,6 +1,6 @@
 -- What the bytes of a link make of an answer, however they come in pieces.
-use Rattle.std.specs.Prelude.{◌≡◌, ◌<◌, ℕ, List, ◌++◌, ⊤, length, Option, Some, option_map, Result, Ok, Err}
-use Rattle.httparse.specs.Grammar.{RequestHead}
+use Rattle.std.specs.Prelude.{◌≡◌, ◌≢◌, ◌<◌, ◌≤◌, ℕ, List, [], ◌++◌, ⊤, length, take, Option, Some, option_map, Result, Ok, Err}
+use Rattle.httparse.specs.Grammar.{MayBecomeRequest, NeverHasRequest, RequestHead}
 use Rattle.hw_wire.specs.Fields.{body_length}
 use Rattle.hw_wire.specs.Requests.{BeginsWith, EndsRequest, Says, pairs}
 use Rattle.hw_wire.specs.declared.fields.HeadFault.{HeadFault}
@@ -34,3 +34,22 @@ HeadsDecide =
     (all rest : List ℕ) (head : RequestHead) (end : ReadEnd) (bytes kept left : List ℕ)
     → BeginsWith all head rest → all ≡ bytes ++ left → EndsRequest end (Some left) bytes kept
     → IsDecided end head rest (kept ++ left)
+
+-- what an answer has to be where no head of at most 16,384 bytes begins all bytes of a link
+abbrev pub IsHeadless : ReadEnd → List ℕ → Type 0
+IsHeadless (Request request) all = ⊥
+IsHeadless End all = all ≡ []
+IsHeadless Cut all = (all ≢ []) × (length all < 16384) × MayBecomeRequest all
+IsHeadless BadHead all = NeverHasRequest (take 16384 all)
+IsHeadless HeadTooLong all = (16384 ≤ length all) × MayBecomeRequest (take 16384 all)
+IsHeadless Chunked all = ⊥
+IsHeadless BodyTooLong all = ⊥
+IsHeadless ReadFault all = ⊤
+IsHeadless NoMemory all = ⊤
+
+-- without such a head the first 16,384 bytes decide the answer
+abbrev pub FrontsDecide : Type 0
+FrontsDecide =
+    (all : List ℕ) (end : ReadEnd) (bytes kept left : List ℕ)
+    → ((head : RequestHead) (rest : List ℕ) → BeginsWith all head rest → ⊥)
+    → all ≡ bytes ++ left → EndsRequest end (Some left) bytes kept → IsHeadless end all
