@@ -1,14 +1,15 @@
 -- A head at the front of all bytes decides what a reading answers.
-use Rattle.std.proofs.Common.{◌≡◌, ◌<◌, ◌≤◌, ◌⊎◌, inl, inr, ℕ, List, [], ◌++◌, length, take, drop, Result, Ok, Err, arith, ap, subst, sym, ◌∙◌, append-nil, append_assoc, length-append, take-append-drop}
+use Rattle.std.proofs.Common.{◌≡◌, ◌<◌, ◌≤◌, ◌⊎◌, inl, inr, ℕ, List, [], ◌++◌, length, take, drop, Ok, Err, arith, ap, subst, sym, ◌∙◌, append-nil, append_assoc, length-append, take-append-drop}
 use Rattle.std.proofs.Math.Seq.{take-append_seam}
 use Rattle.std.proofs.lemmas.List.{take-append-le}
 use Rattle.httparse.specs.Grammar.{RequestHead, print_request, NeverHasRequest, HasNoRequest}
 use Rattle.httparse.proofs.GrammarLemmas.{request_unique}
 use Rattle.hw_wire.specs.Laws.{HeadsDecide, announced}
-use Rattle.hw_wire.specs.Requests.{BeginsWith, IsCut, IsInHead, IsRefused, Says}
+use Rattle.hw_wire.specs.Requests.{BeginsWith, IsCut, IsRefused, Says}
 use Rattle.hw_wire.specs.declared.fields.HeadFault.{HeadFault}
 use Rattle.hw_wire.specs.declared.fields.HeadFault.TheVariants as fault
 use Rattle.hw_wire.specs.declared.requests.ReadEnd.TheVariants.{Request, End, Cut, BadHead, HeadTooLong, Chunked, BodyTooLong, ReadFault, NoMemory}
+use Rattle.hw_wire.proofs.Begins.{begins_all}
 use Rattle.hw_wire.proofs.Lengths.{some_head}
 
 -- the front of a list that begins with both
@@ -24,7 +25,7 @@ same_head : (all bytes left rest others : List ℕ) (head other : RequestHead) �
     → BeginsWith all head rest → BeginsWith bytes other others → (other ≡ head) × (others ++ left ≡ rest)
 same_head all bytes left rest others head other cut begins inner =
     request_unique all other head (others ++ left) rest
-    (inner.valid, cut ∙ ap (λ t. t ++ left) inner.spelled ∙ append_assoc (print_request other) others left)
+    (inner.valid, (begins_all all bytes left others other cut inner).spelled)
     (begins.valid, begins.spelled)
 
 refused : (fault : HeadFault) (all bytes left rest : List ℕ) (head : RequestHead) → all ≡ bytes ++ left

@@ -1,25 +1,17 @@
 -- Where no head that is short enough begins all bytes, their front decides what a reading answers.
-use Rattle.std.proofs.Common.{◌≡◌, ◌≢◌, ◌<◌, ◌≤◌, ◌⊎◌, inl, inr, ℕ, List, [], ◌+◌, ◌-◌, ◌++◌, length, take, Option, arith, ap, subst, sym, ◌∙◌, append-nil, append_assoc, length-append}
+use Rattle.std.proofs.Common.{◌≡◌, ◌≢◌, ◌<◌, ◌≤◌, ◌⊎◌, inl, inr, ℕ, List, [], ◌+◌, ◌-◌, ◌++◌, length, take, arith, ap, subst, sym, ◌∙◌, append-nil, append_assoc, length-append}
 use Rattle.std.proofs.Math.Seq.{take-append_seam, take-append-add}
-use Rattle.httparse.specs.Grammar.{RequestHead, print_request, HasNoRequest, MayBecomeRequest, NeverHasRequest}
+use Rattle.httparse.specs.Grammar.{RequestHead, HasNoRequest, MayBecomeRequest, NeverHasRequest}
 use Rattle.hw_wire.specs.Laws.{FrontsDecide}
 use Rattle.hw_wire.specs.Requests.{BeginsWith, IsCut, IsRefused}
 use Rattle.hw_wire.specs.declared.fields.HeadFault.{HeadFault}
 use Rattle.hw_wire.specs.declared.fields.HeadFault.TheVariants as fault
 use Rattle.hw_wire.specs.declared.requests.ReadEnd.TheVariants.{Request, End, Cut, BadHead, HeadTooLong, Chunked, BodyTooLong, ReadFault, NoMemory}
+use Rattle.hw_wire.proofs.Begins.{begins_all}
 
 -- no head begins these bytes
 abbrev IsWithout : List ℕ → Type 0
 IsWithout all = (head : RequestHead) (rest : List ℕ) → BeginsWith all head rest → ⊥
-
--- a head that begins some of the bytes begins all
-begins_all : (all bytes left rest : List ℕ) (head : RequestHead) → all ≡ bytes ++ left
-    → BeginsWith bytes head rest → BeginsWith all head (rest ++ left)
-begins_all all bytes left rest head cut begins = record {
-  valid = begins.valid;
-  spelled = cut ∙ ap (λ t. t ++ left) begins.spelled ∙ append_assoc (print_request head) rest left;
-  short = begins.short;
-}
 
 unrefused : (fault : HeadFault) (all bytes left : List ℕ) → IsWithout all → all ≡ bytes ++ left
     → IsRefused fault bytes → ⊥

@@ -1,3 +1,4 @@
+pub mod Begins
 pub mod Buffers
 pub mod Decided
 pub mod Headless

@@ -1,5 +1,5 @@
 -- What the bytes of a link make of an answer, however they come in pieces.
-use Rattle.std.specs.Prelude.{◌≡◌, ◌≢◌, ◌<◌, ◌≤◌, ℕ, List, [], ◌++◌, ⊤, length, take, Option, Some, option_map, Result, Ok, Err}
+use Rattle.std.specs.Prelude.{◌≡◌, ◌≢◌, ◌<◌, ◌≤◌, ℕ, List, [], ◌++◌, ⊤, length, take, Some, option_map, Result, Ok, Err}
 use Rattle.httparse.specs.Grammar.{MayBecomeRequest, NeverHasRequest, RequestHead}
 use Rattle.hw_wire.specs.Fields.{body_length}
 use Rattle.hw_wire.specs.Requests.{BeginsWith, EndsRequest, Says, pairs}

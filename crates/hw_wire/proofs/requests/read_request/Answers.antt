@@ -1,19 +1,17 @@
 use Rattle.std.proofs.Common.{◌≡◌, ◌++◌, List, ℕ, Ok, inr, ap, subst, sym, ◌∙◌, append_assoc}
 use Rattle.ev_ports.specs.Ports.{Loses-chain}
-use Rattle.httparse.specs.Grammar.{RequestHead, print_request}
+use Rattle.httparse.specs.Grammar.{RequestHead}
 use Rattle.hw_wire.specs.Heads.{kept_of}
 use Rattle.hw_wire.specs.Requests.{BeginsWith}
+use Rattle.hw_wire.proofs.Begins.{begins_all}
 use Rattle.hw_wire.proofs.requests.read_request.Goals as goal
 
 -- what was read behind a head follows it
 longer : (old m n kept rest : List ℕ) (head : RequestHead) → kept ≡ old ++ m
     → BeginsWith kept head rest → BeginsWith (old ++ (m ++ n)) head (rest ++ n)
-longer old m n kept rest head read begins = record {
-  valid = begins.valid;
-  spelled = sym (append_assoc old m n) ∙ ap (λ t. t ++ n) (sym read ∙ begins.spelled)
-      ∙ append_assoc (print_request head) rest n;
-  short = begins.short;
-}
+longer old m n kept rest head read begins =
+    let cut = sym (append_assoc old m n) ∙ ap (λ t. t ++ n) (sym read) in
+    begins_all (old ++ (m ++ n)) kept n rest head cut begins
 
 pub returns-in-Whole-read_body-clause-reads : goal.returns-in-Whole-read_body-clause-reads
 returns-in-Whole-read_body-clause-reads g c =
