@@ -4,7 +4,8 @@
 Build it first by `rt run` in crates/rows_bench, then: python3 bench/rows.py [RUNS]
 
 Each figure is the least of RUNS runs (5, where it isn't given), less that of a run which only does what
-comes before: starting the program for `fill`, and the fill for the others.
+comes before: starting the program for `fill`, the fill for the other works on receipts, and for events
+making them and the state, or making them ready too.
 """
 
 import pathlib
@@ -19,11 +20,15 @@ WORKS = [
     ("middle", "fill", "ten thousand puts in the middle of a million rows"),
     ("merge", "fill", "a merge of ten thousand rows into a million"),
     ("delete", "fill", "a walk over a million rows that drops ten thousand"),
+    ("prepare 10000", "state 10000", "making 10,000 events ready for sections of 10,000 rows"),
+    ("prepare 20000", "state 20000", "making 20,000 events ready for sections of 20,000 rows"),
+    ("apply 10000", "prepare 10000", "applying 10,000 events to sections of 10,000 rows"),
+    ("apply 20000", "prepare 20000", "applying 20,000 events to sections of 20,000 rows"),
 ]
 
 
 def seconds(work, runs):
-    words = [PROGRAM] if work is None else [PROGRAM, work]
+    words = [PROGRAM] if work is None else [PROGRAM, *work.split()]
     times = []
     for _ in range(runs):
         start = time.perf_counter()
@@ -34,7 +39,8 @@ def seconds(work, runs):
 
 def main():
     runs = int(sys.argv[1]) if len(sys.argv) > 1 else 5
-    taken = {work: seconds(work, runs) for work in [None] + [work for work, _, _ in WORKS]}
+    works = {name for work, before, _ in WORKS for name in (work, before)}
+    taken = {work: seconds(work, runs) for work in works}
     for work, before, text in WORKS:
         print(f"{text}: {1000 * (taken[work] - taken[before]):.1f} ms")
 
