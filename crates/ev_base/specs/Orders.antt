@@ -42,9 +42,9 @@ triple_cmp first second third a b =
 abbrev pub user_stream_cmp : UserId × StreamId → UserId × StreamId → Ordering
 user_stream_cmp = pair_cmp user_cmp stream_cmp
 
--- a user's messages
-abbrev pub user_message_cmp : UserId × MessageId → UserId × MessageId → Ordering
-user_message_cmp = pair_cmp user_cmp message_cmp
+-- a message's users
+abbrev pub message_user_cmp : MessageId × UserId → MessageId × UserId → Ordering
+message_user_cmp = pair_cmp message_cmp user_cmp
 
 -- a stream's users
 abbrev pub stream_user_cmp : StreamId × UserId → StreamId × UserId → Ordering
@@ -98,8 +98,8 @@ triple_order {A} {B} {C} {first} {second} {third} a b c =
 pub user_stream_order : KeyOrder user_stream_cmp
 user_stream_order = pair_order user_order stream_order
 
-pub user_message_order : KeyOrder user_message_cmp
-user_message_order = pair_order user_order message_order
+pub message_user_order : KeyOrder message_user_cmp
+message_user_order = pair_order message_order user_order
 
 pub stream_user_order : KeyOrder stream_user_cmp
 stream_user_order = pair_order stream_order user_order

@@ -1,7 +1,7 @@
 -- A new user, and a new value of the realm's own row.
 use Rattle.std.proofs.Common.{◌≡◌, ℕ, bytes_eq, ◌+◌, Bool, true, false, ◌&&◌, cond, List, [], ◌∷◌, ◌++◌, length, Option, None, Some, is_some, option_map, option_and_then, sym, ap, refl, ◌∙◌, arith, append-nil}
 use Rattle.std.specs.BTreeMap.{is_at}
-use Rattle.std.proofs.lemmas.Bool.{false≢true}
+use Rattle.std.proofs.lemmas.Bool.{and_parts, false≢true}
 use Rattle.ev_rows.specs.Rows.{SortedByKey, only_if, row_at}
 use Rattle.ev_rows.proofs.RiseLemmas.{rise-sift}
 use Rattle.ev_rows.proofs.RowLemmas.{at_itself, at_same, row_at-sift, same_rows}
@@ -101,9 +101,9 @@ module _ (tables : Tables) (sent : ℕ) (rise : TablesSorted tables) (sound : Is
       go : (o : Option Receipt) → receipt_of tables next message ≡ o → o ≡ None
       go None is = refl
       go (Some own) is =
-          let valid = sound.receipts_are_valid (next, message) own is in
+          let valid = sound.receipts_are_valid (message, next) own is in
           let gone : is_user tables next ≡ false = ap is_some not_there in
-          absurd (false≢true (sym (ap (λ b. b && is_message tables message) gone) ∙ valid))
+          absurd (false≢true (sym gone ∙ (and_parts (is_message tables message) (is_user tables next) valid).1))
 
   -- the new user subscribes to nothing, so subscribers stay
   abbrev peer_test : StreamId → UserId × User → Option (Unit {0})

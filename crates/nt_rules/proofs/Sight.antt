@@ -10,7 +10,7 @@ use Rattle.ev_rows.specs.Rows.{SortedByKey, only_if, row_at, sift}
 use Rattle.ev_rows.proofs.RiseLemmas.{rise-sift, rise_tail}
 use Rattle.ev_rows.proofs.RowLemmas.{at_same, later_row, row_at-sift, row_at_head}
 use Rattle.ev_rows.proofs.ChangeLemmas.{gained_same}
-use Rattle.ev_base.specs.Orders.{message_cmp, message_order, reaction_cmp, reaction_order, user_message_cmp}
+use Rattle.ev_base.specs.Orders.{message_cmp, message_order, reaction_cmp, reaction_order, message_user_cmp}
 use Rattle.ev_base.specs.declared.ids.UserId.{UserId}
 use Rattle.ev_base.specs.declared.ids.MessageId.{MessageId}
 use Rattle.ev_types.specs.declared.rows.ShownMessage.{ShownMessage}
@@ -91,7 +91,7 @@ module _ (before after : Tables) (old_rise : TablesSorted before) (new_rise : Ta
   alike : AlikeWhereKept message_cmp (messages before user) (messages after user)
   alike q old new is now =
       let row : message_at after q ≡ message_at before q = ap (λ rows. row_at message_cmp rows q) same_messages in
-      let receipt : receipt_of after user q ≡ receipt_of before user q = ap (λ rows. row_at user_message_cmp rows (user, q)) same_receipts in
+      let receipt : receipt_of after user q ≡ receipt_of before user q = ap (λ rows. row_at message_user_cmp rows (q, user)) same_receipts in
       go (message_at before q) (message_at after q) (receipt_of before user q) (receipt_of after user q) (sees_message before user q) (sees_message after user q)
       row receipt (sym (at_messages before old_rise user q) ∙ is) (sym (at_messages after new_rise user q) ∙ now)
     where

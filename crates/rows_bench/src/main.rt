@@ -28,7 +28,7 @@ fn change_receipts(alloc: Global, name: &str) -> anyhow::Result<()> {
         "fill" => (filled, 1_000_000),
         "middle" => (work::put_in_the_middle(filled)?, 1_010_000),
         "merge" => (work::merged(alloc, filled)?, 1_010_000),
-        "delete" => (work::without_a_message(filled), 990_000),
+        "delete" => (work::without_a_message(filled), 999_900),
         _ => anyhow::bail!("the work is fill, middle, merge or delete"),
     };
     anyhow::ensure!(posts.receipts_rows().len() == expected, "rows are missing");

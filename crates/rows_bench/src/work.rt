@@ -13,31 +13,31 @@ const UNREAD: Receipt = Receipt {
     collapsed: false,
 };
 
-/// A million receipts, put in rising order: a hundred for each of ten thousand users.
+/// A million receipts, put in rising order: a hundred for each of ten thousand messages.
 pub fn filled(alloc: Global) -> Result<Posts, NoMemory> {
     let mut posts = Posts::new(alloc);
     posts.receipts_reserve(1_000_000)?;
     for place in 0..1_000_000 {
-        let key = (UserId(1 + place / 100), MessageId(1 + place % 100));
+        let key = (MessageId(1 + place / 100), UserId(1 + place % 100));
         posts.receipts_put(key, UNREAD);
     }
     Ok(posts)
 }
 
-/// Ten thousand more for a user in the middle, one at a time.
+/// Ten thousand more for a message in the middle, one at a time.
 pub fn put_in_the_middle(mut posts: Posts) -> Result<Posts, NoMemory> {
     posts.receipts_reserve(10_000)?;
     for place in 0..10_000 {
-        posts.receipts_put((UserId(5_000), MessageId(1_000 + place)), UNREAD);
+        posts.receipts_put((MessageId(5_000), UserId(1_000 + place)), UNREAD);
     }
     Ok(posts)
 }
 
-/// One more for each user, as a message to all of them brings, in one pass.
+/// Ten thousand more, as a message to all users brings, in one pass.
 pub fn merged(alloc: Global, mut posts: Posts) -> Result<Posts, NoMemory> {
     let mut new_rows = Vec::with_capacity(alloc, 10_000)?;
     for user in 1..10_001 {
-        new_rows.push(((UserId(user), MessageId(1_000)), UNREAD))?;
+        new_rows.push(((MessageId(10_001), UserId(user)), UNREAD))?;
     }
     if rows_rise(&new_rows) {
         posts.receipts_reserve(new_rows.len())?;
@@ -46,8 +46,8 @@ pub fn merged(alloc: Global, mut posts: Posts) -> Result<Posts, NoMemory> {
     Ok(posts)
 }
 
-/// All but those of one message, as its deletion leaves them, in one walk.
+/// All but those of one message, as its deletion leaves them.
 pub fn without_a_message(mut posts: Posts) -> Posts {
-    posts.receipts_keep(|row| row.0.1.0 != 50);
+    posts.receipts_keep(|row| row.0.0.0 != 50);
     posts
 }

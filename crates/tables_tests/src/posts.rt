@@ -8,7 +8,7 @@ use std::test::Fail;
 use zr_posts::Posts;
 use zr_types::{Message, Receipt};
 
-const _: () = prove!(size_of::<((UserId, MessageId), Receipt)>() <= 16);
+const _: () = prove!(size_of::<((MessageId, UserId), Receipt)>() <= 16);
 
 const UNREAD: Receipt = Receipt {
     read: false,
@@ -105,14 +105,14 @@ fn messages_are_dropped(rt: HostRuntime) -> Result<(), Fail> {
     Ok(())
 }
 
-fn receipt_key(user: u32, message: u32) -> (UserId, MessageId) {
-    (UserId(user), MessageId(message))
+fn receipt_key(user: u32, message: u32) -> (MessageId, UserId) {
+    (MessageId(message), UserId(user))
 }
 
 // Writes a receipt, with room made for it, and answers the one before.
 fn put_receipt(
     table: &mut Posts,
-    key: (UserId, MessageId),
+    key: (MessageId, UserId),
     row: Receipt,
 ) -> Result<Option<Receipt>, Fail> {
     table.receipts_reserve(1)?;
@@ -123,7 +123,7 @@ fn put_receipt(
 fn merge(
     table: &mut Posts,
     alloc: Global,
-    rows: &[((UserId, MessageId), Receipt)],
+    rows: &[((MessageId, UserId), Receipt)],
 ) -> Result<(), Fail> {
     let rows = rows.to_vec(alloc)?;
     if !rows_rise(&rows) {
@@ -148,8 +148,8 @@ fn put_four(table: &mut Posts, alloc: Global) -> Result<(), Fail> {
 #[test]
 fn new_receipts_go_among_the_old_ones(rt: HostRuntime) -> Result<(), Fail> {
     let all = [
-        (receipt_key(1, 7), UNREAD),
         (receipt_key(2, 1), UNREAD),
+        (receipt_key(1, 7), UNREAD),
         (receipt_key(2, 7), STARRED),
         (receipt_key(3, 7), UNREAD),
     ];
@@ -192,7 +192,7 @@ fn receipts_dropped(
     alloc: Global,
 ) -> Result<(usize, Option<Receipt>, u64, usize), Fail> {
     put_four(table, alloc)?;
-    table.receipts_keep(|row| row.0.1.0 == 7);
+    table.receipts_keep(|row| row.0.0.0 == 7);
     let kept = table.receipts_rows().len();
     let one = table.receipts_drop_key(&receipt_key(2, 7));
     let more = table.receipts_drop_between(&receipt_key(1, 7), &receipt_key(3, 7));

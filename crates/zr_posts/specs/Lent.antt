@@ -2,7 +2,7 @@
 use Rattle.std.specs.Prelude.{Option}
 use Rattle.std.specs.Borrow.{Fml, MutBor, LendsIf}
 use Rattle.ev_rows.specs.Lent.{with_value}
-use Rattle.ev_base.specs.Orders.{message_cmp, user_message_cmp}
+use Rattle.ev_base.specs.Orders.{message_cmp, message_user_cmp}
 use Rattle.ev_base.specs.declared.ids.MessageId.{MessageId}
 use Rattle.ev_base.specs.declared.ids.UserId.{UserId}
 use Rattle.zr_types.specs.declared.posts.Message.{Message}
@@ -19,7 +19,7 @@ lends_message table message r =
     (λ row. record table.now { messages = with_value (message_cmp message) table.now.messages row }) table.now
 
 -- the same for the receipt of a user for a message
-abbrev pub lends_receipt : MutBor PostTables → UserId × MessageId → Option (MutBor Receipt) → Fml
+abbrev pub lends_receipt : MutBor PostTables → MessageId × UserId → Option (MutBor Receipt) → Fml
 lends_receipt table key r =
     LendsIf table_type receipt_type table r
-    (λ row. record table.now { receipts = with_value (user_message_cmp key) table.now.receipts row }) table.now
+    (λ row. record table.now { receipts = with_value (message_user_cmp key) table.now.receipts row }) table.now

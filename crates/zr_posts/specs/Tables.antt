@@ -8,4 +8,4 @@ use Rattle.zr_types.specs.declared.posts.Receipt.{Receipt}
 -- the messages by their number, and the receipts by user and message
 pub record PostTables : Type 0 where
   pub messages : Table MessageId Message
-  pub receipts : Table (UserId × MessageId) Receipt
+  pub receipts : Table (MessageId × UserId) Receipt

@@ -8,7 +8,7 @@ ghost use Rattle.std.specs.List.Retain.{IsFiltered};
 ghost use Rattle.std.specs.Map.{remove_entry};
 ghost use Rattle.std.specs.BTreeMap.{insert_entry, is_at};
 ghost use Rattle.ev_rows.specs.Rows.{SortedByKey, is_outside, row_at, with_rows};
-ghost use Rattle.ev_base.specs.Orders.{message_cmp, user_message_cmp};
+ghost use Rattle.ev_base.specs.Orders.{message_cmp, message_user_cmp};
 ghost use Rattle.zr_posts.specs.Lent.{lends_message, lends_receipt};
 
 use ev_base::{Keyed, MessageId, NoMemory, UserId};
@@ -22,7 +22,7 @@ use zr_types::{Message, Receipt};
 #[derive(Debug, Drop)]
 pub struct Posts {
     messages: Keyed<MessageId, Message>,
-    receipts: Keyed<(UserId, MessageId), Receipt>,
+    receipts: Keyed<(MessageId, UserId), Receipt>,
 }
 
 impl Model for Posts {
@@ -122,23 +122,23 @@ impl Posts {
         self.messages.drop_between(low, high)
     }
 
-    pub fn receipts_get(&self, key: &(UserId, MessageId)) -> Option<&Receipt>
-        ensures { option_copied result ≡ row_at user_message_cmp self.now.receipts.rows key.now }
+    pub fn receipts_get(&self, key: &(MessageId, UserId)) -> Option<&Receipt>
+        ensures { option_copied result ≡ row_at message_user_cmp self.now.receipts.rows key.now }
     {
         self.receipts.get(key)
     }
 
-    pub fn receipts_get_mut(&mut self, key: &(UserId, MessageId)) -> Option<&mut Receipt>
+    pub fn receipts_get_mut(&mut self, key: &(MessageId, UserId)) -> Option<&mut Receipt>
         ensures* writes_back { sem 𝓛 (lends_receipt self.entry key.now result) }
-        ensures value { option_copied_mut result ≡ row_at user_message_cmp self.old.receipts.rows key.now }
+        ensures value { option_copied_mut result ≡ row_at message_user_cmp self.old.receipts.rows key.now }
     {
         self.receipts.get_mut(key)
     }
 
-    /// All receipts, rising by user and then by message.
-    pub fn receipts_rows(&self) -> &[((UserId, MessageId), Receipt)]
+    /// All receipts, rising by message and then by user.
+    pub fn receipts_rows(&self) -> &[((MessageId, UserId), Receipt)]
         ensures all { result.now ≡ self.now.receipts.rows }
-        ensures rise { SortedByKey user_message_cmp self.now.receipts.rows }
+        ensures rise { SortedByKey message_user_cmp self.now.receipts.rows }
     {
         self.receipts.rows()
     }
@@ -155,10 +155,10 @@ impl Posts {
     }
 
     /// Writes the receipt of a user for a message, and answers the one that was there.
-    pub fn receipts_put(&mut self, key: (UserId, MessageId), row: Receipt) -> Option<Receipt>
-        requires { IsNone (row_at user_message_cmp self.old.receipts.rows key) → 1 ≤ self.old.receipts.spare }
-        ensures before { result ≡ row_at user_message_cmp self.old.receipts.rows key }
-        ensures rows { self.new.receipts.rows ≡ insert_entry user_message_cmp self.old.receipts.rows key row }
+    pub fn receipts_put(&mut self, key: (MessageId, UserId), row: Receipt) -> Option<Receipt>
+        requires { IsNone (row_at message_user_cmp self.old.receipts.rows key) → 1 ≤ self.old.receipts.spare }
+        ensures before { result ≡ row_at message_user_cmp self.old.receipts.rows key }
+        ensures rows { self.new.receipts.rows ≡ insert_entry message_user_cmp self.old.receipts.rows key row }
         ensures room { self.old.receipts.spare
             ≤ self.new.receipts.spare + (if is_some result then 0 else 1) }
         ensures messages { self.new.messages ≡ self.old.messages }
@@ -167,10 +167,10 @@ impl Posts {
     }
 
     /// Puts each of the new receipts, all in one pass.
-    pub fn receipts_merge(&mut self, new_rows: Vec<((UserId, MessageId), Receipt)>)
-        requires rise { SortedByKey user_message_cmp new_rows.items }
+    pub fn receipts_merge(&mut self, new_rows: Vec<((MessageId, UserId), Receipt)>)
+        requires rise { SortedByKey message_user_cmp new_rows.items }
         requires room { vec_len new_rows ≤ self.old.receipts.spare }
-        ensures rows { self.new.receipts.rows ≡ with_rows user_message_cmp self.old.receipts.rows new_rows.items }
+        ensures rows { self.new.receipts.rows ≡ with_rows message_user_cmp self.old.receipts.rows new_rows.items }
         ensures room { self.old.receipts.spare ≤ self.new.receipts.spare + vec_len new_rows }
         ensures messages { self.new.messages ≡ self.old.messages }
     {
@@ -178,10 +178,10 @@ impl Posts {
     }
 
     /// Takes the receipt of a user for a message out, and answers it.
-    pub fn receipts_drop_key(&mut self, key: &(UserId, MessageId)) -> Option<Receipt>
-        ensures before { result ≡ row_at user_message_cmp self.old.receipts.rows key.now }
+    pub fn receipts_drop_key(&mut self, key: &(MessageId, UserId)) -> Option<Receipt>
+        ensures before { result ≡ row_at message_user_cmp self.old.receipts.rows key.now }
         ensures rows { self.new.receipts.rows
-            ≡ remove_entry (is_at (user_message_cmp key.now)) self.old.receipts.rows }
+            ≡ remove_entry (is_at (message_user_cmp key.now)) self.old.receipts.rows }
         ensures room { self.old.receipts.spare ≤ self.new.receipts.spare }
         ensures messages { self.new.messages ≡ self.old.messages }
     {
@@ -191,11 +191,11 @@ impl Posts {
     /// Takes out the receipts from `low` to `high`, both included, and answers how many.
     pub fn receipts_drop_between(
         &mut self,
-        low: &(UserId, MessageId),
-        high: &(UserId, MessageId),
+        low: &(MessageId, UserId),
+        high: &(MessageId, UserId),
     ) -> u64
         ensures rows { self.new.receipts.rows
-            ≡ filter (λ row. is_outside user_message_cmp low.now high.now row.0) self.old.receipts.rows }
+            ≡ filter (λ row. is_outside message_user_cmp low.now high.now row.0) self.old.receipts.rows }
         ensures count { result + length self.new.receipts.rows ≡ length self.old.receipts.rows }
         ensures room { self.old.receipts.spare ≤ self.new.receipts.spare }
         ensures messages { self.new.messages ≡ self.old.messages }
@@ -204,9 +204,9 @@ impl Posts {
     }
 
     /// Keeps the receipts that pass the test.
-    pub fn receipts_keep<F: FnMut(&((UserId, MessageId), Receipt)) -> bool>(&mut self, test: F)
+    pub fn receipts_keep<F: FnMut(&((MessageId, UserId), Receipt)) -> bool>(&mut self, test: F)
         requires { F.IsAlwaysCallable test }
-        ensures rows { (p : (UserId × MessageId) × Receipt → Bool) → ComputesKey F.FnMut p test
+        ensures rows { (p : (MessageId × UserId) × Receipt → Bool) → ComputesKey F.FnMut p test
             → self.new.receipts.rows ≡ filter p self.old.receipts.rows }
         ensures calls { IsFiltered (CalledAt F.FnMut) test self.old.receipts.rows self.new.receipts.rows }
         ensures room { self.old.receipts.spare ≤ self.new.receipts.spare }

@@ -17,7 +17,7 @@ use Rattle.ev_base.specs.declared.ids.MessageId.{MessageId}
 use Rattle.ev_base.specs.declared.kinds.Role.{Role}
 use Rattle.ev_base.specs.declared.place.Place.{Place}
 use Rattle.ev_base.specs.declared.place.Place.TheVariants as place
-use Rattle.ev_base.specs.Orders.{message_cmp, message_order, reaction_cmp, reaction_order, stream_cmp, stream_order, user_cmp, user_message_cmp, user_message_order, user_order, user_stream_cmp, user_stream_order}
+use Rattle.ev_base.specs.Orders.{message_cmp, message_order, reaction_cmp, reaction_order, stream_cmp, stream_order, user_cmp, message_user_cmp, message_user_order, user_order, user_stream_cmp, user_stream_order}
 use Rattle.zr_types.specs.declared.people.User.{User}
 use Rattle.zr_types.specs.declared.streams.Stream.{Stream}
 use Rattle.zr_types.specs.declared.streams.Subscription.{Subscription}
@@ -164,10 +164,10 @@ module _ (a b : Tables) (users : (user : UserId) → is_user a user ≡ true →
         and_from (is_user b key.0) (is_stream b key.1) (users key.0 parts.0) (streams key.1 parts.1)
 
   module _ (messages : (message : MessageId) → is_message a message ≡ true → is_message b message ≡ true) where
-    receipt_kept : (key : UserId × MessageId) → is_valid_receipt a key ≡ true → is_valid_receipt b key ≡ true
+    receipt_kept : (key : MessageId × UserId) → is_valid_receipt a key ≡ true → is_valid_receipt b key ≡ true
     receipt_kept key valid =
-        let parts = and_parts (is_user a key.0) (is_message a key.1) valid in
-        and_from (is_user b key.0) (is_message b key.1) (users key.0 parts.0) (messages key.1 parts.1)
+        let parts = and_parts (is_message a key.0) (is_user a key.1) valid in
+        and_from (is_message b key.0) (is_user b key.1) (messages key.0 parts.0) (users key.1 parts.1)
 
     reaction_kept : (key : MessageId × UserId × List ℕ) → is_valid_reaction a key ≡ true → is_valid_reaction b key ≡ true
     reaction_kept key valid =
@@ -198,7 +198,7 @@ module _ (tables : Tables) (sent : ℕ) (sound : IsSound tables sent) where
             (λ row valid. message_kept tables after still (λ stream there. there) row.1 valid) tables.messages sound.messages_are_valid;
         subscriptions_are_valid = each_implies user_stream_order (λ row. is_valid_subscription tables row.0) (λ row. is_valid_subscription after row.0)
             (λ row valid. subscription_kept tables after still (λ stream there. there) row.0 valid) tables.subscriptions sound.subscriptions_are_valid;
-        receipts_are_valid = each_implies user_message_order (λ row. is_valid_receipt tables row.0) (λ row. is_valid_receipt after row.0)
+        receipts_are_valid = each_implies message_user_order (λ row. is_valid_receipt tables row.0) (λ row. is_valid_receipt after row.0)
             (λ row valid. receipt_kept tables after still (λ message there. there) row.0 valid) tables.receipts sound.receipts_are_valid;
         reactions_are_valid = each_implies reaction_order (λ row. is_valid_reaction tables row.0) (λ row. is_valid_reaction after row.0)
             (λ row valid. reaction_kept tables after still (λ message there. there) row.0 valid) tables.reactions sound.reactions_are_valid;
@@ -228,9 +228,9 @@ module _ (tables : Tables) (sent : ℕ) (sound : IsSound tables sent) where
       }
 
   -- messages, receipts and reactions are changed, and nothing else
-  keeps_posts : (sent_after : ℕ) (list : List (MessageId × Message)) (got : List ((UserId × MessageId) × Receipt)) (marks : List ((MessageId × UserId × List ℕ) × Unit {0}))
+  keeps_posts : (sent_after : ℕ) (list : List (MessageId × Message)) (got : List ((MessageId × UserId) × Receipt)) (marks : List ((MessageId × UserId × List ℕ) × Unit {0}))
       → EachRow message_cmp (λ row. is_sent sent_after row.0) list → EachRow message_cmp (λ row. is_valid_message tables row.1) list
-      → EachRow user_message_cmp (λ row. is_valid_receipt (record tables { messages = list; receipts = got; reactions = marks }) row.0) got
+      → EachRow message_user_cmp (λ row. is_valid_receipt (record tables { messages = list; receipts = got; reactions = marks }) row.0) got
       → EachRow reaction_cmp (λ row. is_valid_reaction (record tables { messages = list; receipts = got; reactions = marks }) row.0) marks
       → IsSound (record tables { messages = list; receipts = got; reactions = marks }) sent_after
   keeps_posts sent_after list got marks are_sent valid receipts reactions = record {
@@ -324,7 +324,7 @@ module _ (tables : Tables) (sent : ℕ) (sound : IsSound tables sent) where
         keys (any_at_all keys) tables.messages sound.messages_sent)
         (each_fold message_order (λ row. is_valid_message tables row.1) step (λ key. Unit {0}) (λ rows key takes each. each_changed message_order (λ row. is_valid_message tables row.1) key change keeps rows each)
         keys (any_at_all keys) tables.messages sound.messages_are_valid)
-        (each_implies user_message_order (λ row. is_valid_receipt tables row.0) (λ row. is_valid_receipt after row.0)
+        (each_implies message_user_order (λ row. is_valid_receipt tables row.0) (λ row. is_valid_receipt after row.0)
         (λ row valid. receipt_kept tables after (λ user there. there) still row.0 valid) tables.receipts sound.receipts_are_valid)
         (each_implies reaction_order (λ row. is_valid_reaction tables row.0) (λ row. is_valid_reaction after row.0)
         (λ row valid. reaction_kept tables after (λ user there. there) still row.0 valid) tables.reactions sound.reactions_are_valid)
@@ -347,11 +347,11 @@ module _ (tables : Tables) (sent : ℕ) (sound : IsSound tables sent) where
         (each_put message_order (λ row. is_sent (sent + 1) row.0) new row (sent_next sent) tables.messages
         (each_implies message_order (λ row. is_sent sent row.0) (λ row. is_sent (sent + 1) row.0) (λ row is. sent_more sent row.0 is) tables.messages sound.messages_sent))
         (each_put message_order (λ row. is_valid_message tables row.1) new row (and_from (is_user tables sender) (refers_to_rows tables at) is_there refers) tables.messages sound.messages_are_valid)
-        (each_fold user_message_order (λ row. is_valid_receipt after row.0) (λ rows user. insert_entry user_message_cmp rows (user, new) (new_receipt sender user)) (λ user. is_user tables user ≡ true)
-        (λ rows user takes each. each_put user_message_order (λ row. is_valid_receipt after row.0) (user, new) (new_receipt sender user)
-        (and_from (is_user tables user) (is_some (row_at message_cmp list new)) takes (put_there message_order new row tables.messages)) rows each)
+        (each_fold message_user_order (λ row. is_valid_receipt after row.0) (λ rows user. insert_entry message_user_cmp rows (new, user) (new_receipt sender user)) (λ user. is_user tables user ≡ true)
+        (λ rows user takes each. each_put message_user_order (λ row. is_valid_receipt after row.0) (new, user) (new_receipt sender user)
+        (and_from (is_some (row_at message_cmp list new)) (is_user tables user) (put_there message_order new row tables.messages) takes) rows each)
         receivers each tables.receipts
-        (each_implies user_message_order (λ row. is_valid_receipt tables row.0) (λ row. is_valid_receipt after row.0)
+        (each_implies message_user_order (λ row. is_valid_receipt tables row.0) (λ row. is_valid_receipt after row.0)
         (λ row valid. receipt_kept tables after (λ user there. there) still row.0 valid) tables.receipts sound.receipts_are_valid))
         (each_implies reaction_order (λ row. is_valid_reaction tables row.0) (λ row. is_valid_reaction after row.0)
         (λ row valid. reaction_kept tables after (λ user there. there) still row.0 valid) tables.reactions sound.reactions_are_valid)
@@ -359,7 +359,7 @@ module _ (tables : Tables) (sent : ℕ) (sound : IsSound tables sent) where
     -- a message is deleted, with its receipts and reactions
     message_deleted : (message : MessageId) → IsSound (record tables {
       messages = without message_cmp message tables.messages;
-      receipts = filter (λ row. not (row.0.1.0 == message.0)) tables.receipts;
+      receipts = filter (λ row. not (row.0.0.0 == message.0)) tables.receipts;
       reactions = filter (λ row. not (row.0.0.0 == message.0)) tables.reactions;
     }) sent
     message_deleted message =
@@ -368,9 +368,9 @@ module _ (tables : Tables) (sent : ℕ) (sound : IsSound tables sent) where
         keeps_posts sent list _ _
         (each_without message_order (λ row. is_sent sent row.0) message tables.messages sorted.messages sound.messages_sent)
         (each_without message_order (λ row. is_valid_message tables row.1) message tables.messages sorted.messages sound.messages_are_valid)
-        (each_filtered user_message_order (λ row. is_valid_receipt tables row.0) (λ row. not (row.0.1.0 == message.0)) (λ row. is_valid_receipt after row.0)
-        (λ row valid other. let parts = and_parts (is_user tables row.0.0) (is_message tables row.0.1) valid in
-        and_from (is_user tables row.0.0) (is_some (row_at message_cmp list row.0.1)) parts.0 (left row.0.1 parts.1 other)) tables.receipts sorted.receipts sound.receipts_are_valid)
+        (each_filtered message_user_order (λ row. is_valid_receipt tables row.0) (λ row. not (row.0.0.0 == message.0)) (λ row. is_valid_receipt after row.0)
+        (λ row valid other. let parts = and_parts (is_message tables row.0.0) (is_user tables row.0.1) valid in
+        and_from (is_some (row_at message_cmp list row.0.0)) (is_user tables row.0.1) (left row.0.0 parts.0 other) parts.1) tables.receipts sorted.receipts sound.receipts_are_valid)
         (each_filtered reaction_order (λ row. is_valid_reaction tables row.0) (λ row. not (row.0.0.0 == message.0)) (λ row. is_valid_reaction after row.0)
         (λ row valid other. let parts = and_parts (is_message tables row.0.0) (is_user tables row.0.1) valid in
         and_from (is_some (row_at message_cmp list row.0.0)) (is_user tables row.0.1) (left row.0.0 parts.0 other) parts.1) tables.reactions sorted.reactions sound.reactions_are_valid)
@@ -383,7 +383,7 @@ module _ (tables : Tables) (sent : ℕ) (sound : IsSound tables sent) where
             go false off = there
 
     -- receipts are changed, whose keys stay
-    receipts_changed : (got : List ((UserId × MessageId) × Receipt)) → EachRow user_message_cmp (λ row. is_valid_receipt tables row.0) got → IsSound (record tables { receipts = got }) sent
+    receipts_changed : (got : List ((MessageId × UserId) × Receipt)) → EachRow message_user_cmp (λ row. is_valid_receipt tables row.0) got → IsSound (record tables { receipts = got }) sent
     receipts_changed got valid = keeps_posts sent tables.messages got tables.reactions sound.messages_sent sound.messages_are_valid valid sound.reactions_are_valid
 
     reactions_changed : (marks : List ((MessageId × UserId × List ℕ) × Unit {0})) → EachRow reaction_cmp (λ row. is_valid_reaction tables row.0) marks → IsSound (record tables { reactions = marks }) sent
@@ -489,8 +489,8 @@ module _ (state : RealmState) (actor : UserId) (sound : IsSound state.tables sta
   marks_keeps (of_marks.Flags add flag messages) accepted =
       let keys = differing state.tables actor flag add messages in
       receipts_changed state.tables state.sent sound sorted _
-      (each_fold user_message_order (λ row. is_valid_receipt state.tables row.0) (λ rows message. changed_at user_message_cmp (actor, message) (receipt_with flag add) rows) (λ key. Unit {0})
-      (λ rows key takes each. each_changed user_message_order (λ row. is_valid_receipt state.tables row.0) (actor, key) (receipt_with flag add) (λ v is. is) rows each)
+      (each_fold message_user_order (λ row. is_valid_receipt state.tables row.0) (λ rows message. changed_at message_user_cmp (message, actor) (receipt_with flag add) rows) (λ key. Unit {0})
+      (λ rows key takes each. each_changed message_user_order (λ row. is_valid_receipt state.tables row.0) (key, actor) (receipt_with flag add) (λ v is. is) rows each)
       keys (any_at_all keys) state.tables.receipts sound.receipts_are_valid)
   marks_keeps (of_marks.ReactionAdd message emoji) accepted =
       let none = none_holds (own_reasons state actor (Marks (of_marks.ReactionAdd message emoji))) accepted.own in

@@ -13,7 +13,7 @@ use Rattle.ev_base.specs.declared.ids.StreamId.{StreamId}
 use Rattle.ev_base.specs.declared.ids.MessageId.{MessageId}
 use Rattle.ev_base.specs.declared.place.Place.{Place}
 use Rattle.ev_base.specs.declared.place.Place.TheVariants as place
-use Rattle.ev_base.specs.Orders.{message_cmp, message_order, reaction_cmp, reaction_order, stream_cmp, stream_order, user_cmp, user_message_cmp, user_message_order, user_order, user_stream_cmp, user_stream_order}
+use Rattle.ev_base.specs.Orders.{message_cmp, message_order, reaction_cmp, reaction_order, stream_cmp, stream_order, user_cmp, message_user_cmp, message_user_order, user_order, user_stream_cmp, user_stream_order}
 use Rattle.zr_types.specs.declared.people.User.{User}
 use Rattle.zr_types.specs.declared.streams.Stream.{Stream}
 use Rattle.zr_types.specs.declared.streams.Subscription.{Subscription}
@@ -57,8 +57,8 @@ module _ (tables : Tables) (sent : ℕ) (sorted : TablesSorted tables) (sound : 
       → TablesSorted (record tables { streams = list; subscriptions = own })
   with_streams list own rise own_rise = record { users = sorted.users; streams = rise; subscriptions = own_rise; messages = sorted.messages; receipts = sorted.receipts; reactions = sorted.reactions }
 
-  with_posts : (list : List (MessageId × Message)) (got : List ((UserId × MessageId) × Receipt)) (marks : List ((MessageId × UserId × List ℕ) × Unit {0}))
-      → SortedByKey message_cmp list → SortedByKey user_message_cmp got → SortedByKey reaction_cmp marks → TablesSorted (record tables { messages = list; receipts = got; reactions = marks })
+  with_posts : (list : List (MessageId × Message)) (got : List ((MessageId × UserId) × Receipt)) (marks : List ((MessageId × UserId × List ℕ) × Unit {0}))
+      → SortedByKey message_cmp list → SortedByKey message_user_cmp got → SortedByKey reaction_cmp marks → TablesSorted (record tables { messages = list; receipts = got; reactions = marks })
   with_posts list got marks rise got_rise marks_rise = record { users = sorted.users; streams = sorted.streams; subscriptions = sorted.subscriptions; messages = rise; receipts = got_rise; reactions = marks_rise }
 
   user_sorted : (user : UserId) (change : User → User) → TablesSorted (record tables { users = changed_at user_cmp user change tables.users })
@@ -104,8 +104,8 @@ module _ (tables : Tables) (sent : ℕ) (sorted : TablesSorted tables) (sound : 
   message_sorted : (new : MessageId) (sender : UserId) (at : Place) (content : List ℕ) (moment : ℕ) (receivers : List UserId) → TablesSorted (with_message tables new sender at content moment receivers)
   message_sorted new sender at content moment receivers = with_posts _ _ tables.reactions
       (rise-insert_entry message_order.total new (record { sender = sender; place = at; content = content; timestamp = moment }) tables.messages sorted.messages)
-      (sorted_fold user_message_cmp (λ rows user. insert_entry user_message_cmp rows (user, new) (new_receipt sender user))
-      (λ rows user rise. rise-insert_entry user_message_order.total (user, new) (new_receipt sender user) rows rise) receivers tables.receipts sorted.receipts)
+      (sorted_fold message_user_cmp (λ rows user. insert_entry message_user_cmp rows (new, user) (new_receipt sender user))
+      (λ rows user rise. rise-insert_entry message_user_order.total (new, user) (new_receipt sender user) rows rise) receivers tables.receipts sorted.receipts)
       sorted.reactions
 
   posts_sorted : (actor : UserId) (moment : ℕ) (new : MessageId) (command : PostCommand) → TablesSorted (post_effect actor moment new command tables)
@@ -119,13 +119,13 @@ module _ (tables : Tables) (sent : ℕ) (sorted : TablesSorted tables) (sound : 
   posts_sorted actor moment new (of_posts.Move message stream topic mode) = messages_sorted (moving tables message mode) (λ row. record row { place = target_of row.place stream topic })
   posts_sorted actor moment new (of_posts.Delete message) = with_posts _ _ _
       (rise-remove_entry message_cmp (is_at (message_cmp message)) tables.messages sorted.messages)
-      (rise-filter user_message_cmp (λ row. not (row.0.1.0 == message.0)) tables.receipts sorted.receipts)
+      (rise-filter message_user_cmp (λ row. not (row.0.0.0 == message.0)) tables.receipts sorted.receipts)
       (rise-filter reaction_cmp (λ row. not (row.0.0.0 == message.0)) tables.reactions sorted.reactions)
 
   marks_sorted : (actor : UserId) (command : MarkCommand) → TablesSorted (mark_effect actor command tables)
   marks_sorted actor (of_marks.Flags add flag messages) = with_posts tables.messages _ tables.reactions sorted.messages
-      (sorted_fold user_message_cmp (λ rows message. changed_at user_message_cmp (actor, message) (receipt_with flag add) rows)
-      (λ rows message rise. sorted_changed user_message_order (actor, message) (receipt_with flag add) rows rise) (differing tables actor flag add messages) tables.receipts sorted.receipts)
+      (sorted_fold message_user_cmp (λ rows message. changed_at message_user_cmp (message, actor) (receipt_with flag add) rows)
+      (λ rows message rise. sorted_changed message_user_order (message, actor) (receipt_with flag add) rows rise) (differing tables actor flag add messages) tables.receipts sorted.receipts)
       sorted.reactions
   marks_sorted actor (of_marks.ReactionAdd message emoji) = with_posts tables.messages tables.receipts _ sorted.messages sorted.receipts
       (rise-insert_entry reaction_order.total (message, actor, emoji) tt tables.reactions sorted.reactions)

@@ -18,7 +18,7 @@ use Rattle.ev_base.specs.declared.ids.StreamId.{StreamId}
 use Rattle.ev_base.specs.declared.ids.MessageId.{MessageId}
 use Rattle.ev_base.specs.declared.place.Place.{Place}
 use Rattle.ev_base.specs.declared.place.Place.TheVariants as place
-use Rattle.ev_base.specs.Orders.{message_cmp, message_order, user_message_cmp}
+use Rattle.ev_base.specs.Orders.{message_cmp, message_order, message_user_cmp}
 use Rattle.zr_types.specs.declared.posts.Message.{Message}
 use Rattle.zr_types.specs.Effects.{changed_at, effect, mark_effect, post_effect, receipt_with, sends, with_message}
 use Rattle.ev_base.specs.declared.text.TextKind.{TextKind}
@@ -208,7 +208,7 @@ module _ (state : RealmState) (actor : UserId) where
   marks_same : (command : MarkCommand) → mark_effect_by_ids actor command (ids_of state.tables actor (Marks command)) state.tables ≡ mark_effect actor command state.tables
   marks_same (of_marks.Flags add flag messages) =
       ap (λ keys. record state.tables {
-        receipts = fold (λ rows message. changed_at user_message_cmp (actor, message) (receipt_with flag add) rows) state.tables.receipts keys;
+        receipts = fold (λ rows message. changed_at message_user_cmp (message, actor) (receipt_with flag add) rows) state.tables.receipts keys;
       }) (messages_back state.tables actor (differing state.tables actor flag add messages))
   marks_same (of_marks.ReactionAdd message emoji) = refl
   marks_same (of_marks.ReactionRemove message emoji) = refl

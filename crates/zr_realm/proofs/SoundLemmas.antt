@@ -7,7 +7,7 @@ use Rattle.ev_rows.specs.KeyOrder.{KeyOrder}
 use Rattle.ev_rows.specs.Rows.{SortedByKey, row_at}
 use Rattle.ev_rows.proofs.RiseLemmas.{rise_tail}
 use Rattle.ev_rows.proofs.RowLemmas.{later_row, row_at_head}
-use Rattle.ev_base.specs.Orders.{user_cmp, stream_cmp, user_order, stream_order, message_order, user_stream_order, user_message_order, reaction_order}
+use Rattle.ev_base.specs.Orders.{user_cmp, stream_cmp, user_order, stream_order, message_order, user_stream_order, message_user_order, reaction_order}
 use Rattle.zr_types.specs.Tables.{Tables}
 use Rattle.zr_types.specs.Sound.{CountFrom, EachRow, IsSound, TablesSorted, TextsDiffer, always, is_sent, is_unarchived, is_valid_message, is_valid_reaction, is_valid_receipt, stream_number, is_valid_subscription, user_number}
 use Rattle.zr_realm.specs.SoundTests.{count_from, is_sound, rows_are_valid, texts_differ}
@@ -78,7 +78,7 @@ module _ (tables : Tables) (sent : ℕ) (rise : TablesSorted tables) where
         messages_sent = λ key row here. (and_parts (is_sent sent key) (is_valid_message tables row) (sent_and_stand key row here)).0;
         messages_are_valid = λ key row here. (and_parts (is_sent sent key) (is_valid_message tables row) (sent_and_stand key row here)).1;
         subscriptions_are_valid = each user_stream_order (λ row. is_valid_subscription tables row.0) tables.subscriptions subscriptions;
-        receipts_are_valid = each user_message_order (λ row. is_valid_receipt tables row.0) tables.receipts receipts;
+        receipts_are_valid = each message_user_order (λ row. is_valid_receipt tables row.0) tables.receipts receipts;
         reactions_are_valid = each reaction_order (λ row. is_valid_reaction tables row.0) tables.reactions reactions;
         names_differ = names_iff.0 names;
         emails_differ = emails_iff.0 emails;
@@ -95,6 +95,6 @@ module _ (tables : Tables) (sent : ℕ) (rise : TablesSorted tables) where
       (and_from (list_all (λ row. is_valid_subscription tables row.0) tables.subscriptions) _
       (all user_stream_order (λ row. is_valid_subscription tables row.0) tables.subscriptions rise.subscriptions it.subscriptions_are_valid)
       (and_from (list_all (λ row. is_valid_receipt tables row.0) tables.receipts) _
-      (all user_message_order (λ row. is_valid_receipt tables row.0) tables.receipts rise.receipts it.receipts_are_valid)
+      (all message_user_order (λ row. is_valid_receipt tables row.0) tables.receipts rise.receipts it.receipts_are_valid)
       (all reaction_order (λ row. is_valid_reaction tables row.0) tables.reactions rise.reactions it.reactions_are_valid))))))
       (and_from (texts_differ is_unarchived (λ row. row.name) tables.streams) _ (names_iff.1 it.names_differ) (emails_iff.1 it.emails_differ))

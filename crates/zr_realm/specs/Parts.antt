@@ -6,7 +6,7 @@ use Rattle.std.specs.List.Sorted.{IsStrictlySortedBy}
 use Rattle.ev_base.specs.declared.ids.UserId.{UserId}
 use Rattle.ev_base.specs.declared.ids.MessageId.{MessageId}
 use Rattle.ev_base.specs.declared.place.Place.TheVariants as place
-use Rattle.ev_base.specs.Orders.{user_message_cmp}
+use Rattle.ev_base.specs.Orders.{message_user_cmp}
 use Rattle.zr_types.specs.declared.posts.Receipt.{Receipt}
 use Rattle.zr_types.specs.declared.command.StreamRef.TheVariants as ref
 use Rattle.zr_types.specs.declared.command.Command.{Command}
@@ -47,8 +47,8 @@ abbrev pub messages_of : List ℕ → List MessageId
 messages_of numbers = map (λ number. record { 0 = number }) numbers
 
 -- the new receipts of a message
-abbrev pub receipt_rows : MessageId → UserId → List UserId → List ((UserId × MessageId) × Receipt)
-receipt_rows message sender receivers = map (λ user. ((user, message), new_receipt sender user)) receivers
+abbrev pub receipt_rows : MessageId → UserId → List UserId → List ((MessageId × UserId) × Receipt)
+receipt_rows message sender receivers = map (λ user. ((message, user), new_receipt sender user)) receivers
 
 -- the texts that a change stores, where its ids are these
 abbrev pub texts_by_ids : Command → List ℕ → List (List ℕ)
@@ -71,7 +71,7 @@ post_effect_by_ids actor moment new command ids tables = tables
 -- what a change with these ids makes of flags and reactions
 abbrev pub mark_effect_by_ids : UserId → MarkCommand → List ℕ → Tables → Tables
 mark_effect_by_ids actor (of_marks.Flags add flag messages) ids tables = record tables {
-  receipts = fold (λ rows message. changed_at user_message_cmp (actor, message) (receipt_with flag add) rows) tables.receipts
+  receipts = fold (λ rows message. changed_at message_user_cmp (message, actor) (receipt_with flag add) rows) tables.receipts
       (messages_of ids);
 }
 mark_effect_by_ids actor command ids tables = mark_effect actor command tables

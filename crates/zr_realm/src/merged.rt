@@ -9,7 +9,7 @@ use std::mem;
 use zr_types::Receipt;
 
 /// Receipts by user and message.
-pub type ReceiptRow = ((UserId, MessageId), Receipt);
+pub type ReceiptRow = ((MessageId, UserId), Receipt);
 
 /// A buffer without rows. Contracts see how many it has room for.
 #[derive(Debug, Drop)]

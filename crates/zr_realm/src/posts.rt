@@ -3,7 +3,7 @@
 ghost use Rattle.std.specs.Prelude.{◌≡◌, ◌≤◌, ◌-◌, ◌==◌, ℕ, List, [], Some, filter, fold, length, not, replicate, vec_capacity, vec_len};
 ghost use Rattle.std.specs.BTreeMap.{insert_entry};
 ghost use Rattle.ev_rows.specs.Rows.{SortedByKey, with_rows};
-ghost use Rattle.ev_base.specs.Orders.{message_cmp, user_message_cmp};
+ghost use Rattle.ev_base.specs.Orders.{message_cmp, message_user_cmp};
 ghost use Rattle.zr_types.specs.declared.posts.Message.{Message};
 ghost use Rattle.zr_types.specs.Commands.{target_of};
 ghost use Rattle.zr_types.specs.Effects.{changed_at, receipt_with, without};
@@ -27,11 +27,11 @@ pub fn put_message(
     requires room { 1 ≤ posts.old.messages.spare }
     requires receipts_room { length receivers.now ≤ posts.old.receipts.spare }
     requires buffer { length receivers.now ≤ buffer.old }
-    requires sorted { SortedByKey user_message_cmp
+    requires sorted { SortedByKey message_user_cmp
         (receipt_rows message row.sender (users_of receivers.now)) }
     ensures messages { posts.new.messages.rows
         ≡ insert_entry message_cmp posts.old.messages.rows message row }
-    ensures receipts { posts.new.receipts.rows ≡ with_rows user_message_cmp posts.old.receipts.rows
+    ensures receipts { posts.new.receipts.rows ≡ with_rows message_user_cmp posts.old.receipts.rows
         (receipt_rows message row.sender (users_of receivers.now)) }
 {
     let receipts = new_receipts(buffer.take(), message, row.sender, receivers);
@@ -58,7 +58,7 @@ fn new_receipts(
             starred: false,
             collapsed: false,
         };
-        rows.push_reserved(((user, message), receipt));
+        rows.push_reserved(((message, user), receipt));
     }
     rows
 }
@@ -120,32 +120,32 @@ pub fn delete_message(posts: &mut Posts, marks: &mut Marks, message: MessageId)
     ensures messages { posts.new.messages.rows
         ≡ without message_cmp message posts.old.messages.rows }
     ensures receipts { posts.new.receipts.rows
-        ≡ filter (λ row. not (row.0.1.0 == message.0)) posts.old.receipts.rows }
+        ≡ filter (λ row. not (row.0.0.0 == message.0)) posts.old.receipts.rows }
     ensures reactions { marks.new.reactions.rows
         ≡ filter (λ row. not (row.0.0.0 == message.0)) marks.old.reactions.rows }
 {
     posts.messages_drop_key(&message);
-    posts.receipts_keep(|row| row.0.1.0 != message.0);
+    posts.receipts_keep(|row| row.0.0.0 != message.0);
     marks.reactions_keep(|row| row.0.0.0 != message.0);
 }
 
 /// Gives a flag of a user's receipts for these messages a value.
 pub fn set_flags(posts: &mut Posts, user: UserId, flag: Flag, value: bool, messages: &[u32])
-    requires sorted { SortedByKey user_message_cmp posts.old.receipts.rows }
+    requires sorted { SortedByKey message_user_cmp posts.old.receipts.rows }
     ensures receipts { posts.new.receipts.rows ≡ fold
-        (λ rows message. changed_at user_message_cmp (user, message) (receipt_with flag value) rows)
+        (λ rows message. changed_at message_user_cmp (message, user) (receipt_with flag value) rows)
         posts.old.receipts.rows (messages_of messages.now) }
     ensures messages { posts.new.messages ≡ posts.old.messages }
 {
     for number in messages {
-        set_flag(posts, (user, MessageId(*number)), flag, value);
+        set_flag(posts, (MessageId(*number), user), flag, value);
     }
 }
 
-fn set_flag(posts: &mut Posts, key: (UserId, MessageId), flag: Flag, value: bool)
-    requires sorted { SortedByKey user_message_cmp posts.old.receipts.rows }
+fn set_flag(posts: &mut Posts, key: (MessageId, UserId), flag: Flag, value: bool)
+    requires sorted { SortedByKey message_user_cmp posts.old.receipts.rows }
     ensures receipts { posts.new.receipts.rows
-        ≡ changed_at user_message_cmp key (receipt_with flag value) posts.old.receipts.rows }
+        ≡ changed_at message_user_cmp key (receipt_with flag value) posts.old.receipts.rows }
     ensures messages { posts.new.messages ≡ posts.old.messages }
 {
     if let Some(row) = posts.receipts_get_mut(&key) {

@@ -217,7 +217,7 @@ impl Realm {
     pub fn receipt(&self, user: UserId, message: MessageId) -> Option<&Receipt>
         ensures { option_copied result ≡ receipt_of self.now.state.tables user message }
     {
-        self.tables.posts.receipts_get(&(user, message))
+        self.tables.posts.receipts_get(&(message, user))
     }
 
     pub fn is_user(&self, user: UserId) -> bool

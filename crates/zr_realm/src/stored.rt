@@ -212,7 +212,7 @@ impl RealmTables {
     {
         let rows = self.posts.receipts_rows();
         rows.iter()
-            .all(|row| self.has_user(row.0.0) && self.has_message(row.0.1))
+            .all(|row| self.has_message(row.0.0) && self.has_user(row.0.1))
     }
 
     fn reactions_are_valid(&self) -> bool

@@ -4,7 +4,7 @@ ghost use Rattle.std.specs.Prelude.{◌≡◌, ◌≤◌, ◌<◌, ◌+◌, ◌^
 ghost use Rattle.std.specs.List.Sorted.{IsStrictlySortedBy};
 ghost use Rattle.std.specs.Ordering.{nat_cmp};
 ghost use Rattle.ev_rows.specs.Rows.{SortedByKey};
-ghost use Rattle.ev_base.specs.Orders.{message_cmp, user_message_cmp};
+ghost use Rattle.ev_base.specs.Orders.{message_cmp, message_user_cmp};
 ghost use Rattle.zr_types.specs.declared.command.Command.{Command};
 ghost use Rattle.zr_types.specs.Effects.{next_user, sends, with_message};
 ghost use Rattle.zr_types.specs.Sound.{IsSound, TablesSorted};
@@ -166,7 +166,7 @@ impl RealmTables {
     }
 
     fn change_marks(&mut self, actor: UserId, command: MarkCommand, mut texts: Texts, ids: &[u32])
-        requires sorted { SortedByKey user_message_cmp self.old.posts.receipts.rows }
+        requires sorted { SortedByKey message_user_cmp self.old.posts.receipts.rows }
         requires texts { texts ≡ texts_by_ids (Command.Marks command) ids.now }
         requires room { IsRoomFor (new_rows (Command.Marks command) (length ids.now))
             (rooms_in self.old) }

@@ -5,7 +5,7 @@ use Rattle.std.specs.declared.cmp.Ordering.{Ordering}
 use Rattle.std.specs.Map.{remove_entry}
 use Rattle.std.specs.BTreeMap.{insert_entry, is_at}
 use Rattle.ev_rows.specs.Rows.{row_at}
-use Rattle.ev_base.specs.Orders.{user_cmp, stream_cmp, message_cmp, user_stream_cmp, user_message_cmp, reaction_cmp}
+use Rattle.ev_base.specs.Orders.{user_cmp, stream_cmp, message_cmp, user_stream_cmp, message_user_cmp, reaction_cmp}
 use Rattle.ev_base.specs.declared.ids.UserId.{UserId}
 use Rattle.ev_base.specs.declared.ids.StreamId.{StreamId}
 use Rattle.ev_base.specs.declared.ids.MessageId.{MessageId}
@@ -94,7 +94,7 @@ module _ (tables : Tables) where
   with_message message sender place content moment receivers = record tables {
     messages = insert_entry message_cmp tables.messages message
         (record { sender = sender; place = place; content = content; timestamp = moment });
-    receipts = fold (λ rows user. insert_entry user_message_cmp rows (user, message) (new_receipt sender user)) tables.receipts receivers;
+    receipts = fold (λ rows user. insert_entry message_user_cmp rows (message, user) (new_receipt sender user)) tables.receipts receivers;
   }
 
 -- what a command changes of people
@@ -143,14 +143,14 @@ post_effect actor moment new (of_posts.Move message stream topic mode) tables =
     with_messages tables (moving tables message mode) (λ row. record row { place = target_of row.place stream topic })
 post_effect actor moment new (of_posts.Delete message) tables = record tables {
   messages = without message_cmp message tables.messages;
-  receipts = filter (λ row. not (row.0.1.0 == message.0)) tables.receipts;
+  receipts = filter (λ row. not (row.0.0.0 == message.0)) tables.receipts;
   reactions = filter (λ row. not (row.0.0.0 == message.0)) tables.reactions;
 }
 
 -- what an actor's command changes of flags and reactions
 abbrev pub mark_effect : UserId → MarkCommand → Tables → Tables
 mark_effect actor (of_marks.Flags add flag messages) tables = record tables {
-  receipts = fold (λ rows message. changed_at user_message_cmp (actor, message) (receipt_with flag add) rows) tables.receipts
+  receipts = fold (λ rows message. changed_at message_user_cmp (message, actor) (receipt_with flag add) rows) tables.receipts
       (differing tables actor flag add messages);
 }
 mark_effect actor (of_marks.ReactionAdd message emoji) tables =

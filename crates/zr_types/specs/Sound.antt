@@ -3,7 +3,7 @@ use Rattle.std.specs.Prelude.{◌≡◌, ℕ, ◌+◌, Bool, true, not, ◌&&◌
 use Rattle.std.specs.List.{list_all}
 use Rattle.std.specs.declared.cmp.Ordering.{Ordering}
 use Rattle.ev_rows.specs.Rows.{SortedByKey, row_at}
-use Rattle.ev_base.specs.Orders.{user_cmp, stream_cmp, message_cmp, user_stream_cmp, user_message_cmp, reaction_cmp}
+use Rattle.ev_base.specs.Orders.{user_cmp, stream_cmp, message_cmp, user_stream_cmp, message_user_cmp, reaction_cmp}
 use Rattle.ev_base.specs.declared.ids.UserId.{UserId}
 use Rattle.ev_base.specs.declared.ids.StreamId.{StreamId}
 use Rattle.ev_base.specs.declared.ids.MessageId.{MessageId}
@@ -20,7 +20,7 @@ pub record TablesSorted (tables : Tables) : Type 0 where
   pub streams : SortedByKey stream_cmp tables.streams
   pub subscriptions : SortedByKey user_stream_cmp tables.subscriptions
   pub messages : SortedByKey message_cmp tables.messages
-  pub receipts : SortedByKey user_message_cmp tables.receipts
+  pub receipts : SortedByKey message_user_cmp tables.receipts
   pub reactions : SortedByKey reaction_cmp tables.reactions
 
 -- the rows are numbered one by one, from a first number on
@@ -58,8 +58,8 @@ module _ (tables : Tables) where
   abbrev pub is_valid_subscription : UserId × StreamId → Bool
   is_valid_subscription key = is_user tables key.0 && is_stream key.1
 
-  abbrev pub is_valid_receipt : UserId × MessageId → Bool
-  is_valid_receipt key = is_user tables key.0 && is_message key.1
+  abbrev pub is_valid_receipt : MessageId × UserId → Bool
+  is_valid_receipt key = is_message key.0 && is_user tables key.1
 
   abbrev pub is_valid_reaction : ReactionKey → Bool
   is_valid_reaction key = is_message key.0 && is_user tables key.1
@@ -88,7 +88,7 @@ pub record IsSound (tables : Tables) (sent : ℕ) : Type 0 where
   pub messages_sent : EachRow message_cmp (λ row. is_sent sent row.0) tables.messages
   pub messages_are_valid : EachRow message_cmp (λ row. is_valid_message tables row.1) tables.messages
   pub subscriptions_are_valid : EachRow user_stream_cmp (λ row. is_valid_subscription tables row.0) tables.subscriptions
-  pub receipts_are_valid : EachRow user_message_cmp (λ row. is_valid_receipt tables row.0) tables.receipts
+  pub receipts_are_valid : EachRow message_user_cmp (λ row. is_valid_receipt tables row.0) tables.receipts
   pub reactions_are_valid : EachRow reaction_cmp (λ row. is_valid_reaction tables row.0) tables.reactions
   pub names_differ : TextsDiffer stream_cmp is_unarchived (λ row. row.name) tables.streams
   pub emails_differ : TextsDiffer user_cmp always (λ row. row.email) tables.users

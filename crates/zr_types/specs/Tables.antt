@@ -4,7 +4,7 @@ use Rattle.ev_rows.specs.Rows.{row_at}
 use Rattle.ev_base.specs.declared.ids.UserId.{UserId}
 use Rattle.ev_base.specs.declared.ids.StreamId.{StreamId}
 use Rattle.ev_base.specs.declared.ids.MessageId.{MessageId}
-use Rattle.ev_base.specs.Orders.{user_cmp, stream_cmp, message_cmp, user_stream_cmp, user_message_cmp, reaction_cmp}
+use Rattle.ev_base.specs.Orders.{user_cmp, stream_cmp, message_cmp, user_stream_cmp, message_user_cmp, reaction_cmp}
 use Rattle.zr_types.specs.declared.people.RealmRow.{RealmRow}
 use Rattle.zr_types.specs.declared.people.User.{User}
 use Rattle.zr_types.specs.declared.streams.Stream.{Stream}
@@ -23,7 +23,7 @@ pub record Tables : Type 0 where
   pub streams : List (StreamId × Stream)
   pub subscriptions : List ((UserId × StreamId) × Subscription)
   pub messages : List (MessageId × Message)
-  pub receipts : List ((UserId × MessageId) × Receipt)
+  pub receipts : List ((MessageId × UserId) × Receipt)
   pub reactions : List (ReactionKey × ⊤)
 
 -- the tables, how many commits and messages there ever were, and the bytes of all texts that accepted commands carried
@@ -64,7 +64,7 @@ module _ (tables : Tables) where
   subscription_of user stream = row_at user_stream_cmp tables.subscriptions (user, stream)
 
   abbrev pub receipt_of : UserId → MessageId → Option Receipt
-  receipt_of user message = row_at user_message_cmp tables.receipts (user, message)
+  receipt_of user message = row_at message_user_cmp tables.receipts (message, user)
 
   -- the user reacted to the message with this emoji
   abbrev pub reaction_of : UserId → MessageId → List ℕ → Option ⊤

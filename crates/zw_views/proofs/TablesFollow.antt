@@ -11,7 +11,7 @@ use Rattle.ev_base.specs.declared.ids.StreamId.{StreamId}
 use Rattle.ev_base.specs.declared.ids.MessageId.{MessageId}
 use Rattle.ev_base.specs.declared.place.Place.{Place}
 use Rattle.ev_base.specs.declared.place.Place.TheVariants as place
-use Rattle.ev_base.specs.Orders.{user_cmp, stream_cmp, message_cmp, user_stream_cmp, user_message_cmp, reaction_cmp, user_order, stream_order, message_order, user_stream_order, user_message_order, reaction_order}
+use Rattle.ev_base.specs.Orders.{user_cmp, stream_cmp, message_cmp, user_stream_cmp, message_user_cmp, reaction_cmp, user_order, stream_order, message_order, user_stream_order, message_user_order, reaction_order}
 use Rattle.zr_types.specs.declared.people.User.{User}
 use Rattle.zr_types.specs.declared.streams.Stream.{Stream}
 use Rattle.zr_types.specs.declared.posts.Message.{Message}
@@ -183,8 +183,8 @@ module _ (tables : Tables) (sent : ℕ) (rise : TablesSorted tables) (users : Co
       with_streams tables.streams _ rise.streams streams (rise-changed_at user_stream_order (actor, stream) (subscription_with value) tables.subscriptions rise.subscriptions)
 
   -- messages, receipts and reactions are changed, and nothing else
-  with_posts : (sent_after : ℕ) (list : List (MessageId × Message)) (got : List ((UserId × MessageId) × Receipt)) (marks : List ((MessageId × UserId × List ℕ) × Unit {0}))
-      → SortedByKey message_cmp list → SortedByKey user_message_cmp got → SortedByKey reaction_cmp marks
+  with_posts : (sent_after : ℕ) (list : List (MessageId × Message)) (got : List ((MessageId × UserId) × Receipt)) (marks : List ((MessageId × UserId × List ℕ) × Unit {0}))
+      → SortedByKey message_cmp list → SortedByKey message_user_cmp got → SortedByKey reaction_cmp marks
       → ((message : MessageId) → is_some (row_at message_cmp list message) ≡ true → message.0 ≤ sent_after)
       → ((message : MessageId) (old new : Message) → message_at tables message ≡ Some old → row_at message_cmp list message ≡ Some new → SameRow old new)
       → IsStep tables sent (record tables { messages = list; receipts = got; reactions = marks }) sent_after
@@ -217,7 +217,7 @@ module _ (tables : Tables) (sent : ℕ) (rise : TablesSorted tables) (users : Co
       → IsStep tables sent (with_message tables new sender at content moment receivers) (sent + 1)
   sent_step new new_is sender at content moment receivers = with_posts (sent + 1) _ _ tables.reactions
       (rise-insert_entry message_order.total new row tables.messages rise.messages)
-      (rise-fold user_message_order (λ rows user. insert_entry user_message_cmp rows (user, new) (new_receipt sender user)) (λ rows user rising. rise-insert_entry user_message_order.total (user, new) (new_receipt sender user) rows rising) receivers tables.receipts rise.receipts)
+      (rise-fold message_user_order (λ rows user. insert_entry message_user_cmp rows (new, user) (new_receipt sender user)) (λ rows user rising. rise-insert_entry message_user_order.total (new, user) (new_receipt sender user) rows rising) receivers tables.receipts rise.receipts)
       rise.reactions
       (λ q is. bound q (is_at (message_cmp q) new) refl (sym (ap is_some (new_message tables.messages new row q)) ∙ is))
       (λ q old later is there. same q old later is (is_at (message_cmp q) new) refl (sym (new_message tables.messages new row q) ∙ there))
@@ -249,7 +249,7 @@ module _ (tables : Tables) (sent : ℕ) (rise : TablesSorted tables) (users : Co
       (messages_step (moving tables message mode) (λ row. record row { place = target_of row.place stream topic }) (λ a. record { sender = refl; timestamp = refl; place = keeps-target a.place stream topic }))
   post_step actor moment new new_is (of_posts.Delete message) = rw add-zero (with_posts sent _ _ _
       (rise-remove_entry message_cmp (is_at (message_cmp message)) tables.messages rise.messages)
-      (rise-filter user_message_cmp (λ row. not (row.0.1.0 == message.0)) tables.receipts rise.receipts)
+      (rise-filter message_user_cmp (λ row. not (row.0.0.0 == message.0)) tables.receipts rise.receipts)
       (rise-filter reaction_cmp (λ row. not (row.0.0.0 == message.0)) tables.reactions rise.reactions)
       (λ q is. within q (there q (is_at (message_cmp q) message) (sym (ap is_some (row_at-remove_entry message_order tables.messages message q rise.messages)) ∙ is)))
       (λ q old later is left. same q old later is (is_at (message_cmp q) message) (sym (row_at-remove_entry message_order tables.messages message q rise.messages) ∙ left)))
@@ -264,8 +264,8 @@ module _ (tables : Tables) (sent : ℕ) (rise : TablesSorted tables) (users : Co
 
   mark_step : (actor : UserId) (command : MarkCommand) → IsStep tables sent (mark_effect actor command tables) sent
   mark_step actor (of_marks.Flags add flag messages) = with_posts sent tables.messages _ tables.reactions rise.messages
-      (rise-fold user_message_order (λ rows message. changed_at user_message_cmp (actor, message) (receipt_with flag add) rows)
-      (λ rows message rising. rise-changed_at user_message_order (actor, message) (receipt_with flag add) rows rising) (differing tables actor flag add messages) tables.receipts rise.receipts)
+      (rise-fold message_user_order (λ rows message. changed_at message_user_cmp (message, actor) (receipt_with flag add) rows)
+      (λ rows message rising. rise-changed_at message_user_order (message, actor) (receipt_with flag add) rows rising) (differing tables actor flag add messages) tables.receipts rise.receipts)
       rise.reactions within (same_messages tables.messages)
   mark_step actor (of_marks.ReactionAdd message emoji) = with_posts sent tables.messages tables.receipts _ rise.messages rise.receipts
       (rise-insert_entry reaction_order.total (message, actor, emoji) tt tables.reactions rise.reactions) within (same_messages tables.messages)

@@ -6,7 +6,7 @@ use Rattle.ev_rows.proofs.RiseLemmas.{rise-nil}
 use Rattle.ev_rows.proofs.RowLemmas.{row_at-sift}
 use Rattle.ev_base.specs.declared.ids.UserId.{UserId}
 use Rattle.ev_base.specs.declared.ids.MessageId.{MessageId}
-use Rattle.ev_base.specs.Orders.{user_cmp, stream_cmp, message_cmp, user_stream_cmp, user_message_cmp, reaction_cmp, user_order, message_order}
+use Rattle.ev_base.specs.Orders.{user_cmp, stream_cmp, message_cmp, user_stream_cmp, message_user_cmp, reaction_cmp, user_order, message_order}
 use Rattle.ev_base.specs.declared.place.Place.{Place}
 use Rattle.ev_types.specs.declared.rows.ShownUser.{ShownUser}
 use Rattle.ev_types.specs.declared.rows.ShownMessage.{ShownMessage}
@@ -28,7 +28,7 @@ use Rattle.zw_views.proofs.TablesFollow.{IsStep, TablesFollow, effect_step}
 
 pub opening_counted : IsCounted opening_state
 opening_counted = record {
-  sorted = record { users = rise-nil user_cmp; streams = rise-nil stream_cmp; subscriptions = rise-nil user_stream_cmp; messages = rise-nil message_cmp; receipts = rise-nil user_message_cmp; reactions = rise-nil reaction_cmp };
+  sorted = record { users = rise-nil user_cmp; streams = rise-nil stream_cmp; subscriptions = rise-nil user_stream_cmp; messages = rise-nil message_cmp; receipts = rise-nil message_user_cmp; reactions = rise-nil reaction_cmp };
   users = tt;
   streams = tt;
   sent = λ message is. absurd (false≢true is);
