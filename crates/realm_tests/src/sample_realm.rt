@@ -140,6 +140,6 @@ fn add_receipt(posts: &mut Posts) -> Result<(), Fail> {
         starred: false,
         collapsed: false,
     };
-    posts.receipts_put((ANN, ONE), row);
+    posts.receipts_put((ONE, ANN), row);
     Ok(())
 }

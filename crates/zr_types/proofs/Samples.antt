@@ -207,7 +207,7 @@ with_third = made bob (Posts (of_posts.SendStream (ref.Id den) (codes "u") (code
 send_stream : place_at with_third three ≡ Some (place.Stream den (codes "u"))
 send_stream = refl
 
-send_stream_receipts : map (λ row. row.1.read) (filter (λ row. row.0.1.0 == 3) with_third.tables.receipts) ≡ false ∷ true ∷ []
+send_stream_receipts : map (λ row. row.1.read) (filter (λ row. row.0.0.0 == 3) with_third.tables.receipts) ≡ false ∷ true ∷ []
 send_stream_receipts = refl
 
 send_dm : place_at (made bob (Posts (of_posts.SendDm (ann ∷ ann ∷ []) (codes "psst")))) three ≡ Some (place.Direct (ann ∷ bob ∷ []))
