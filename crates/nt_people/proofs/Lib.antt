@@ -4,5 +4,4 @@ pub mod Still
 pub mod Changed
 pub mod Added
 pub mod PeopleTold
-pub mod EachMore
 pub mod Checked

@@ -121,11 +121,6 @@ people_parts tables (of_people.UserRole user role) = made_of (role_parts tables 
 people_parts tables (of_people.UserDeactivate user) = made_of (active_parts tables user false) (user_at tables user)
 people_parts tables (of_people.UserReactivate user) = made_of (active_parts tables user true) (user_at tables user)
 
--- a command of people
-abbrev pub is_of_people : Command → Bool
-is_of_people (People command) = true
-is_of_people command = false
-
 -- the texts that a command of people brings
 abbrev pub texts_in : Tables → PeopleCommand → List (List ℕ)
 texts_in tables command = map (λ text. text.1) (texts_of tables (People command))

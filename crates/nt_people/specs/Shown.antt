@@ -1,5 +1,5 @@
--- What one row of a table gives to an audience, to the subscribers of a stream, or to the sight that a role opens.
-use Rattle.std.specs.Prelude.{◌&&◌, Option, Some, option_map, ⊤}
+-- What one row of a table gives to the sight that a role opens.
+use Rattle.std.specs.Prelude.{Option, Some, option_map}
 use Rattle.ev_base.specs.declared.ids.UserId.{UserId}
 use Rattle.ev_base.specs.declared.ids.StreamId.{StreamId}
 use Rattle.ev_base.specs.declared.ids.MessageId.{MessageId}
@@ -8,20 +8,12 @@ use Rattle.ev_rows.specs.Rows.{only_if}
 use Rattle.ev_types.specs.declared.rows.ShownMessage.{ShownMessage}
 use Rattle.ev_types.specs.declared.rows.ShownStream.{ShownStream}
 use Rattle.nt_people.specs.PeopleParts.{opens, opens_place}
-use Rattle.zr_types.specs.declared.people.User.{User}
 use Rattle.zr_types.specs.declared.posts.Message.{Message}
 use Rattle.zr_types.specs.declared.streams.Stream.{Stream}
 use Rattle.zr_types.specs.Tables.{Tables, receipt_of}
-use Rattle.zr_types.specs.Visibility.{is_subscribed, sees_stream}
 use Rattle.zw_views.specs.Views.{shown_message, shown_stream}
 
 module _ (tables : Tables) where
-  abbrev pub viewer_in : StreamId → UserId × User → Option ⊤
-  viewer_in stream row = only_if (sees_stream tables row.0 stream) (Some (tt {0}))
-
-  abbrev pub peer_in : StreamId → UserId × User → Option ⊤
-  peer_in stream row = only_if (row.1.is_active && is_subscribed tables row.0 stream) (Some (tt {0}))
-
   abbrev pub opened_in : UserId → Option Role → Option Role → StreamId × Stream → Option ShownStream
   opened_in user old new row = only_if (opens tables user old new row.0) (Some (shown_stream row.1))
 

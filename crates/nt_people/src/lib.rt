@@ -1,7 +1,6 @@
 //! The notices of changes of people, made from the change and the tables before it.
 #![tactic(auto)]
 
-mod audiences;
 mod people;
 mod rows;
 mod sight;

@@ -10,7 +10,8 @@ ghost use Rattle.zr_types.specs.Effects.{after_command};
 ghost use Rattle.zr_types.specs.declared.command.Command.{Command};
 ghost use Rattle.zw_traces.specs.RealmTrace.{deactivated_by};
 ghost use Rattle.zw_views.specs.Views.{view_of};
-ghost use Rattle.nt_people.specs.PeopleParts.{is_of_people, people_parts, texts_in};
+ghost use Rattle.nt_rules.specs.Kinds.{is_of_people};
+ghost use Rattle.nt_people.specs.PeopleParts.{people_parts, texts_in};
 
 use crate::rows::{push_active, push_name, push_new_user, push_realm_field, push_role};
 use ev_base::{Listed, NoMemory, Text, UserId};

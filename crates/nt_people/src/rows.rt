@@ -6,10 +6,10 @@ ghost use Rattle.zr_types.specs.Effects.{next_user};
 ghost use Rattle.zr_types.specs.Tables.{user_at};
 ghost use Rattle.nt_people.specs.PeopleParts.{active_parts, name_parts, new_row, new_user_parts, peer_part, realm_parts, role_change_parts, role_parts};
 
-use crate::audiences::{push_to_everyone, push_to_one, push_to_viewers};
 use crate::sight::{push_message_sight, push_stream_sight};
 use ev_base::{Listed, NoMemory, Role, StreamId, Text, UserId};
 use ev_types::{Event, Part, RealmField, ShownUser, UserField};
+use nt_parts::{push_to_everyone, push_to_one, push_to_viewers};
 use zr_realm::Realm;
 use zr_types::{NameField, Stream};
 

@@ -1,7 +1,7 @@
 use Rattle.std.proofs.Common.{◌∙◌, ◌++◌, ◌<◌, ap, arith, flat_map, length}
 use Rattle.ev_laws.proofs.Loops.{take_whole}
 use Rattle.nt_people.specs.PeopleParts.{peer_part}
-use Rattle.nt_people.proofs.EachMore.{flat_map_more}
+use Rattle.nt_parts.proofs.EachMore.{flat_map_more}
 use Rattle.nt_people.proofs.rows.push_peers.Goals as goal
 
 pub loop-row-preserved : goal.loop-row-preserved

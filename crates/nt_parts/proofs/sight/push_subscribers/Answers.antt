@@ -5,8 +5,8 @@ use Rattle.ev_types.specs.declared.event.Event.{Event}
 use Rattle.ev_types.specs.declared.event.Event.TheVariants.{PeerAdd}
 use Rattle.zw_views.specs.Views.{peers}
 use Rattle.ev_laws.proofs.Loops.{take_whole}
-use Rattle.nt_people.proofs.EachMore.{flat_map_more}
-use Rattle.nt_people.proofs.sight.push_subscribers.Goals as goal
+use Rattle.nt_parts.proofs.EachMore.{flat_map_more}
+use Rattle.nt_parts.proofs.sight.push_subscribers.Goals as goal
 
 pub loop-stream-preserved : goal.loop-stream-preserved
 loop-stream-preserved c =

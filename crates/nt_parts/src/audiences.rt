@@ -7,7 +7,7 @@ ghost use Rattle.ev_types.specs.declared.notice.Audience.{Audience};
 ghost use Rattle.nt_rules.specs.Parts.{to, viewers};
 ghost use Rattle.zr_types.specs.Visibility.{is_subscribed, sees_stream};
 ghost use Rattle.zw_views.specs.Views.{peers};
-ghost use Rattle.nt_people.specs.Shown.{peer_in, viewer_in};
+ghost use Rattle.nt_parts.specs.UserCells.{peer_in, viewer_in};
 
 use ev_base::{Keyed, Listed, NoMemory, StreamId, UserId};
 use ev_types::{Audience, Event, Part};
@@ -53,8 +53,8 @@ pub fn push_to_viewers(
     Ok(parts.push(Part { audience, event })?)
 }
 
-// The users who see a stream.
-fn viewers(alloc: Global, realm: &Realm, stream: StreamId) -> Result<Vec<UserId>, NoMemory>
+/// The users who see a stream.
+pub fn viewers(alloc: Global, realm: &Realm, stream: StreamId) -> Result<Vec<UserId>, NoMemory>
     ensures { IfOk result
         (λ users. users.items ≡ keys_of (viewers realm.now.state.tables stream)) }
 {

@@ -2,7 +2,7 @@ use Rattle.std.proofs.Common.{◌++◌, ap, rules}
 use Rattle.std.proofs.lemmas.Result.{IfOk-equal}
 use Rattle.ev_rows.specs.Rows.{one_of}
 use Rattle.ev_types.specs.declared.event.Event.TheVariants.{PeerAdd}
-use Rattle.nt_people.proofs.sight.push_subscribers_of.Goals as goal
+use Rattle.nt_parts.proofs.sight.push_subscribers_of.Goals as goal
 
 pub returns : goal.returns
 returns c =
