@@ -5,3 +5,4 @@ pub mod PeerChanges
 pub mod Heard
 pub mod Sight
 pub mod Six
+pub mod StreamsStay

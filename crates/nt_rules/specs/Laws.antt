@@ -5,7 +5,7 @@ use Rattle.ev_base.specs.declared.ids.UserId.{UserId}
 use Rattle.ev_base.specs.declared.ids.StreamId.{StreamId}
 use Rattle.ev_rows.specs.Rows.{gained, keys_of, lost, one_of}
 use Rattle.ev_types.specs.Audiences.{has_user}
-use Rattle.ev_types.specs.Changes.{arrivals, full_message, message_events, peer_events}
+use Rattle.ev_types.specs.Changes.{arrivals, changes_between, full_message, message_events, peer_events}
 use Rattle.ev_types.specs.Sections.{Sections}
 use Rattle.ev_types.specs.declared.event.Event.{Event}
 use Rattle.ev_types.specs.declared.event.Event.TheVariants.{MessageGone, PeerAdd, PeerRemove}
@@ -29,6 +29,13 @@ MessagesComeAndGo =
     (before after : Tables) (user : UserId) → TablesSorted before → TablesSorted after
     → after.messages ≡ before.messages → after.receipts ≡ before.receipts → after.reactions ≡ before.reactions
     → message_events (view_of before user) (view_of after user) ≡ come_and_go (view_of before user) (view_of after user)
+
+-- where the realm, the users, the streams and the subscriptions stay, nothing changes but messages
+abbrev pub MessagesAloneChange : Type 0
+MessagesAloneChange =
+    (before after : Tables) (user : UserId) → TablesSorted before
+    → after.realm ≡ before.realm → after.users ≡ before.users → after.streams ≡ before.streams → after.subscriptions ≡ before.subscriptions
+    → changes_between (view_of before user) (view_of after user) ≡ message_events (view_of before user) (view_of after user)
 
 -- a user is told of subscribers stream by stream: those who are gained, and then those who are lost
 abbrev pub PeersChangeByStream : Type 0
