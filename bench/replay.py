@@ -9,6 +9,10 @@ push and a poll at the end of each hundred lines:
   people    fifty users and ten streams, with renames, subscriptions, unsubscriptions and changes of streams (500 and 1,000)
   messages  twenty users and five streams: of a hundred lines 60 are messages, 25 flags, 10 reactions, and 5 edits, moves,
             deletions and changes of people and streams (2,000 and 4,000)
+  mixed     a hundred users, and twenty streams of ten subscribers: of a hundred lines 55 are messages, 25 flags, 10 reactions, and
+            7 edits, moves, deletions and changes of people and streams; ten clients hear of messages, and acknowledge (100,000
+            and 200,000 lines)
+  crowded   a stream with many subscribers, each with a queue, and a thousand messages to it (1,000 and 2,000 subscribers)
   kept      one queue that nobody polls: a rename of the realm, an announcement and a push for each item (5,000 and 10,000 items)
   passed    one queue whose client polls each item at once (10,000 and 20,000 items)
   spread    a hundred pushes, each of one event to every queue (1,000 and 2,000 queues); the time of the same lines without the
@@ -100,6 +104,68 @@ def messages(count):
     return rounds(opened(users, streams), count, command, poll_in_turn(users))
 
 
+def mixed(count):
+    users, streams, clients = 100, 20, 10
+    lines = ["user_add 0 u1@x.org u1 100 k1"]
+    lines += [f"user_add 1 u{user}@x.org u{user} 400 k{user}" for user in range(2, users + 1)]
+    lines += [f"stream_create 1 s{stream} % public" for stream in range(1, streams + 1)]
+    subscribers = {stream: {1, *((stream * 7 + step * 11) % users + 1 for step in range(9))} for stream in range(1, streams + 1)}
+    lines += [f"subscribe 1 {stream} {user}" for stream in subscribers for user in sorted(subscribers[stream] - {1})]
+    lines += ["notice", "push 0"] + [f"register {user} message -" for user in range(1, clients + 1)]
+    sent, heard, acknowledged = [], [0] * (users + 1), [-1] * (users + 1)
+
+    def send(receivers, line):
+        sent.append(line)
+        for user in receivers:
+            heard[user] += 1
+        return line
+
+    def command(turn):
+        kind, stream, user = turn % 97, turn % streams + 1, turn * 7 % users + 1
+        message = max(1, len(sent) - turn % 31)
+        if kind < 55 and turn % 5:
+            return send(subscribers[stream] | {1}, f"send_stream 1 {stream} t{turn % 3} m{turn}")
+        if kind < 55:
+            return send({1, user}, f"send_dm 1 {user} m{turn}")
+        if kind < 80:
+            return f"flags 1 add {('read', 'starred')[turn % 2]} {message}"
+        if kind < 90:
+            return f"reaction_add 1 {message} {('tada', 'smile', 'heart')[turn % 3]}"
+        if kind == 95:
+            subscribers[stream].add(user)
+        if kind == 96:
+            subscribers[stream].discard(user)
+        return (
+            f"edit_content 1 {message} e{turn}",
+            f"move 1 {message} {stream} t{turn % 5} one",
+            f"delete 1 {message}",
+            f"user_update {stream} {stream} n{turn}",
+            f"stream_update 1 {stream} description d{turn}",
+            f"subscribe 1 {stream} {user}",
+            f"unsubscribe 1 {stream} {user}",
+        )[kind - 90]
+
+    def poll(turn):
+        user = turn // 97 % clients + 1
+        line = f"poll {user} {user}.0 {acknowledged[user]}"
+        acknowledged[user] = heard[user] - 1
+        return line
+
+    return rounds(lines, count, command, poll)
+
+
+def crowded(count):
+    lines = ["user_add 0 u1@x.org u1 100 k1", "stream_create 1 s % public"]
+    lines += [f"user_add 1 u{user}@x.org u{user} 400 k{user}" for user in range(2, count + 1)]
+    lines += [f"subscribe 1 1 {user}" for user in range(2, count + 1)]
+    lines += ["notice", "push 0"] + [f"register {user} message -" for user in range(1, count + 1)]
+    for turn in range(1_000):
+        lines.append(f"send_stream 1 1 t{turn % 3} m{turn}")
+        if turn % 100 == 99:
+            lines += ["notice", "push 0"]
+    return lines
+
+
 def one_queue(count, poll):
     """An item for each count, with what the client does then."""
     lines = ["user_add 0 ann@x.org Ann 100 k1", "notice", "push 0", "register 1 realm -"]
@@ -130,6 +196,8 @@ SCRIPTS = {
     "renames": (renames, [100_000, 200_000]),
     "people": (people, [500, 1_000]),
     "messages": (messages, [2_000, 4_000]),
+    "mixed": (mixed, [100_000, 200_000]),
+    "crowded": (crowded, [1_000, 2_000]),
     "kept": (kept, [5_000, 10_000]),
     "passed": (passed, [10_000, 20_000]),
     "spread": (spread, [1_000, 2_000]),

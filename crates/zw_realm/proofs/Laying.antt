@@ -1,7 +1,9 @@
 -- A commit and the notice that is laid of it.
-use Rattle.std.proofs.Common.{◌≡◌, ℕ, ◌+◌, List, [], ◌∷◌, ◌++◌, length, length-append, Option, refl, ap, sym, subst, ◌∙◌, arith}
+use Rattle.std.proofs.Common.{◌≡◌, ℕ, ◌+◌, List, [], ◌∷◌, ◌++◌, length, length-append, Option, refl, ap, ap₂, sym, subst, ◌∙◌, arith}
 use Rattle.ev_base.specs.declared.ids.UserId.{UserId}
 use Rattle.ev_types.specs.declared.notice.Notice.{Notice}
+use Rattle.ev_types.specs.Audiences.{events_for}
+use Rattle.ev_types.specs.Changes.{changes_between}
 use Rattle.zr_types.specs.declared.command.Change.{Change}
 use Rattle.zr_types.specs.declared.command.Command.{Command}
 use Rattle.zr_types.specs.declared.command.Command.TheVariants.{People, Streams, Posts, Marks}
@@ -11,6 +13,7 @@ use Rattle.zr_types.specs.Checks.{IsChangeOf, WasChecked, resolved}
 use Rattle.zr_types.specs.Commits.{IsCommitted}
 use Rattle.zr_types.specs.Effects.{after_command}
 use Rattle.zw_views.specs.Laws.{IsCounted}
+use Rattle.zw_views.specs.Views.{view_of}
 use Rattle.zw_views.proofs.ViewsCompare.{stays_counted}
 use Rattle.zw_traces.specs.RealmTrace.{deactivated_by}
 use Rattle.zw_realm.specs.CoreStates.{CoreState}
@@ -56,6 +59,27 @@ module _ (before after : RealmState) (change : Change) (made : Committed) (ends 
         tells = subst (λ state. TellsCommit old.realm state (length old.notices + 1) command has.notice) realm_is (has.tells command (ends_of command is));
         announced = ap (λ (core : CoreState). core.announced) has.is;
       }
+
+module _ (before : RealmState) (change : Change) (checked : WasChecked before change) (made : Committed) (after : RealmState)
+    (committed : AreCommitted before after change made) (number : ℕ) (notice : Notice) (numbered : notice.number ≡ number)
+    (ends : notice.ends ≡ deactivated_by change.command)
+    (tells : (command : Command) → IsChangeOf before command change → (user : UserId) → events_for user notice
+    ≡ changes_between (view_of before.tables user) (view_of (after_command change.actor change.moment command before).tables user)) where
+  -- a notice of what the change will make tells of the commit that made it
+  pub foretold : (old new : CoreState) → old.realm ≡ before → length old.notices + 1 ≡ number
+      → new ≡ record { realm = after; notices = old.notices ++ notice ∷ []; announced = old.announced }
+      → (command : Command) → IsChangeOf old.realm command change → LaysNotice old change.actor change.moment command made new
+  foretold old new same next is =
+      lays before after change made (deactivated_by change.command) refl committed old new same (record {
+        notice = notice;
+        is = is;
+        tells = λ command ends_are. record { numbered = numbered ∙ sym next; ends = ends ∙ ends_are; tells = heard };
+      })
+    where
+      heard : (user : UserId) → events_for user notice ≡ changes_between (view_of old.realm.tables user) (view_of after.tables user)
+      heard user =
+          tells checked.0 checked.1 user
+          ∙ ap₂ (λ (was is : RealmState). changes_between (view_of was.tables user) (view_of is.tables user)) (sym same) (sym (committed checked.0 checked.1).state)
 
 module _ (before after : RealmState) (ends : Option UserId) (next : IsAfterCommand before after ends) (counted : IsCounted before) where
   pub counted_after : IsCounted after

@@ -4,6 +4,7 @@ ghost use Rattle.std.specs.Prelude.{◌≡◌, ◌+◌, ◌≤◌, IfOk, List, O
 ghost use Rattle.zr_types.specs.declared.command.Command.{Command};
 ghost use Rattle.zr_types.specs.Checks.{IsChangeOf, WasChecked};
 ghost use Rattle.zr_types.specs.Commits.{IsCommitted};
+ghost use Rattle.nt_rules.specs.Kinds.{is_of_people};
 ghost use Rattle.zw_traces.specs.declared.realm.RealmStep.{RealmStep};
 ghost use Rattle.zw_traces.specs.RealmTrace.{RealmAnswers, deactivated_by};
 ghost use Rattle.zw_realm.specs.CoreStates.{IsProper, RealmRepresents};
@@ -14,6 +15,7 @@ use crate::comparing::compared_notice;
 use cmd_rules::commit_change;
 use ev_base::{ExactClone, Listed, NoMemory, UserId};
 use ev_types::{Notice, Section};
+use nt_people::notice;
 use std::alloc::Global;
 use std::marker::Model;
 use zr_realm::Realm;
@@ -126,9 +128,39 @@ impl RealmCore {
         }
     }
 
-    // Makes a change and lays its notice. All that takes memory comes first, so that out of memory
-    // leaves the core as it was.
+    // Makes a change and lays its notice.
     fn lay(&mut self, alloc: Global, change: Change) -> Result<Committed, NoMemory>
+        requires { WasChecked self.old.realm change }
+        ensures ok { IfOk result (λ made. (command : Command)
+            → IsChangeOf self.old.realm command change
+            → LaysNotice self.old change.actor change.moment command made self.new) }
+        ensures err { OnErr result (self.new ≡ self.old) }
+    {
+        match &change.command {
+            Command::People(_) => self.lay_told(alloc, change),
+            _ => self.lay_compared(alloc, change),
+        }
+    }
+
+    // Lays the notice that the change itself gives. All that takes memory comes before the change,
+    // so that out of memory leaves the core as it was.
+    fn lay_told(&mut self, alloc: Global, change: Change) -> Result<Committed, NoMemory>
+        requires people { is_of_people change.command ≡ true }
+        requires checked { WasChecked self.old.realm change }
+        ensures ok { IfOk result (λ made. (command : Command)
+            → IsChangeOf self.old.realm command change
+            → LaysNotice self.old change.actor change.moment command made self.new) }
+        ensures err { OnErr result (self.new ≡ self.old) }
+    {
+        let notice = notice(alloc, &self.realm, &change)?;
+        self.notices.reserve(1)?;
+        let made = commit_change(alloc, &mut self.realm, change)?;
+        self.notices.push_reserved(notice);
+        Ok(made)
+    }
+
+    // Lays the notice of the compared views.
+    fn lay_compared(&mut self, alloc: Global, change: Change) -> Result<Committed, NoMemory>
         requires { WasChecked self.old.realm change }
         ensures ok { IfOk result (λ made. (command : Command)
             → IsChangeOf self.old.realm command change

@@ -2,7 +2,7 @@
 use Rattle.std.proofs.Common.{ap, sym}
 use Rattle.zw_realm.specs.CoreStates.{CoreState}
 use Rattle.zw_realm.proofs.Laying.{lays}
-use Rattle.zw_realm.proofs.realm_core.RealmCore.lay.Goals as goal
+use Rattle.zw_realm.proofs.realm_core.RealmCore.lay_compared.Goals as goal
 
 pub returns-clause-ok : goal.returns-clause-ok
 returns-clause-ok c =
