@@ -5,6 +5,7 @@ ghost use Rattle.nt_rules.specs.Laws.{
   MessagesComeAndGo,
   PartsAreHeard,
   PeersChangeByStream,
+  ReadersHave,
   ViewersSee,
 };
 
@@ -31,4 +32,9 @@ pub fn parts_are_heard()
 /// The viewers of a stream are those who see it.
 pub fn viewers_see()
     ensures { ViewersSee }
+{}
+
+/// The readers of a message are those who have it.
+pub fn readers_have()
+    ensures { ReadersHave }
 {}
