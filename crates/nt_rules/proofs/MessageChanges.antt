@@ -2,12 +2,14 @@
 use Rattle.std.proofs.Common.{◌≡◌, true, [], map, sym, refl, append-nil}
 use Rattle.ev_rows.specs.Rows.{SortedByKey, gained, keys_of, lost, one_of, row_at}
 use Rattle.ev_base.specs.Orders.{message_cmp, message_order, reaction_cmp, reaction_order}
+use Rattle.ev_base.specs.declared.ids.MessageId.{MessageId}
+use Rattle.ev_types.specs.declared.rows.ShownMessage.{ShownMessage}
 use Rattle.ev_types.specs.declared.event.Event.TheVariants.{MessageGone}
-use Rattle.ev_types.specs.Changes.{arrivals, edits, full_message, is_kept, message_events, reaction_events}
+use Rattle.ev_types.specs.Changes.{arrivals, full_message, is_kept, message_events, reaction_events}
 use Rattle.ev_types.specs.Sections.{ReactionKey, Sections}
 use Rattle.nt_rules.specs.Laws.{come_and_go}
-use Rattle.nt_rules.proofs.Alike.{AlikeWhereKept, kept_twins, none_gained, staying, twins_quiet}
-use Rattle.nt_rules.proofs.FieldsStay.{content_stays, no_flags, no_moves}
+use Rattle.nt_rules.proofs.Alike.{AlikeWhereKept, kept_twins, none_gained, staying}
+use Rattle.nt_rules.proofs.FieldsStay.{no_edits, no_flags, no_moves}
 
 -- messages come and go, and those that stay keep their reactions
 pub record MessagesStay (before after : Sections) : Type 0 where
@@ -28,11 +30,12 @@ pub messages_stay : (before after : Sections) → MessagesStay before after → 
 messages_stay before after stay =
     let first = arrivals (map (full_message after.reactions) (gained message_cmp before.messages after.messages)) in
     let last = one_of MessageGone (keys_of (lost message_cmp before.messages after.messages)) in
+    let same : MessageId × ShownMessage → ShownMessage = λ row. row.1 in
     rw (kept_twins message_order before.messages after.messages stay.rises stay.alike)
     (rw (
-      no_moves (staying message_order before.messages after.messages),
-      twins_quiet edits content_stays (staying message_order before.messages after.messages),
-      no_flags (staying message_order before.messages after.messages),
+      no_moves same (λ row. refl) (staying message_order before.messages after.messages),
+      no_edits same (λ row. refl) (staying message_order before.messages after.messages),
+      no_flags same (λ row. refl) (staying message_order before.messages after.messages),
       no_reactions before after stay,
     )
     (simp append-nil))
