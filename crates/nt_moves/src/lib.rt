@@ -1,0 +1,2 @@
+//! The parts of a notice that tell of messages that move.
+#![tactic(auto)]
