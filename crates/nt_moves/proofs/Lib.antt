@@ -1,2 +1,4 @@
 pub mod MovedRows
 pub mod MoveTold
+pub mod MoveChanges
+pub mod KeptMoves

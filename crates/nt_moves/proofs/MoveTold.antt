@@ -1,12 +1,12 @@
 -- What moves is told to each user by what the user sees of it before and afterwards.
-use Rattle.std.proofs.Common.{◌≡◌, ℕ, Bool, true, false, not, ◌&&◌, ◌||◌, cond, List, [], ◌∷◌, ◌++◌, map, filter, flat_map, fold, Option, None, Some, is_some, option_map, option_and_then, sym, ap, ap₂, refl, ◌∙◌}
-use Rattle.std.specs.BTreeMap.{is_at}
+use Rattle.std.proofs.Common.{◌≡◌, ℕ, Bool, true, false, not, ◌&&◌, ◌||◌, cond, List, [], ◌∷◌, ◌++◌, map, filter, flat_map, fold, Option, None, Some, is_some, is_none, option_map, option_and_then, sym, ap, ap₂, subst, refl, ◌∙◌, append-nil, append_assoc}
+use Rattle.std.specs.BTreeMap.{insert_entry, is_at}
 use Rattle.std.specs.List.{cons_option, filter_map}
 use Rattle.std.specs.Option.{option_map_or}
-use Rattle.std.proofs.lemmas.Bool.{false≢true}
+use Rattle.ev_rows.specs.KeyOrder.{KeyOrder}
 use Rattle.ev_rows.specs.Rows.{SortedByKey, both_of, fresh, gained, kept, keys_of, lost, one_of, only_if, row_at, sift}
-use Rattle.ev_rows.proofs.RiseLemmas.{rise-sift, rise_tail}
-use Rattle.ev_rows.proofs.RowLemmas.{later_row, row_at_head}
+use Rattle.ev_rows.proofs.ChangeLemmas.{both_of-same, fresh-same}
+use Rattle.ev_rows.proofs.RowLemmas.{only_if-None}
 use Rattle.ev_rows.proofs.SiftLemmas.{gained_sifts, kept_sifts, sift_patched}
 use Rattle.ev_base.specs.Orders.{message_cmp, message_order}
 use Rattle.ev_base.specs.declared.ids.UserId.{UserId}
@@ -23,42 +23,47 @@ use Rattle.zr_types.specs.Visibility.{has_protected_history, sees_at, sees_messa
 use Rattle.zw_views.specs.RowViews.{message_in}
 use Rattle.zw_views.specs.Views.{messages, shown_message}
 use Rattle.nt_rules.proofs.Sight.{sift_same}
+use Rattle.nt_rules.proofs.WrittenOver.{rise-written, row_at-written, written}
+use Rattle.nt_moves.specs.MoveParts.{at_topic}
 use Rattle.nt_moves.proofs.MovedRows.{patched}
 
-module _ (before : Tables) (rise : TablesSorted before) (picks : MessageId × Message → Bool) (from into : StreamId) (old_topic topic : List ℕ) where
-  abbrev pub at_new : Message → Message
-  at_new row = record row { place = place.Stream into topic }
+module _ (before : Tables) (user : UserId) (picks : MessageId × Message → Bool) where
+  -- a message with a receipt, as the user would see it where it is seen
+  abbrev pub shown_at : Bool → (Message → Message) → MessageId × Message → Option ShownMessage
+  shown_at seen change row = only_if seen (option_map (shown_message (change row.1)) (receipt_of before user row.0))
 
+  -- a picked message as the user would see it at a place, and another as the user sees it
+  abbrev pub shown_with : (Message → Message) → Bool → MessageId × Message → Option ShownMessage
+  shown_with change seen row = cond (picks row) (shown_at seen change row) (message_in before user row)
+
+module _ (before : Tables) (rise : TablesSorted before) (picks : MessageId × Message → Bool) (from into : StreamId) (old_topic topic : List ℕ) where
   -- the picked messages stand in a topic of a stream
   abbrev pub AllStandAt : Type 0
   AllStandAt = (q : MessageId) (row : Message) → message_at before q ≡ Some row → picks (q, row) ≡ true → row.place ≡ place.Stream from old_topic
 
+  abbrev pub new_row : MessageId × Message → Message
+  new_row row = patched message_order picks (at_topic into topic) row
+
   -- the tables with the picked messages at their new place
   abbrev pub after : Tables
-  after = record before { messages = map (λ row. (row.0, patched message_order picks at_new row)) before.messages }
+  after = record before { messages = written new_row before.messages }
+
+  pub after_rise : TablesSorted after
+  after_rise = record {
+    users = rise.users;
+    streams = rise.streams;
+    subscriptions = rise.subscriptions;
+    messages = rise-written new_row message_order before.messages rise.messages;
+    receipts = rise.receipts;
+    reactions = rise.reactions;
+  }
 
   module _ (user : UserId) where
-    abbrev saw : Bool
-    saw = sees_stream before user from
-
-    abbrev sees : Bool
-    sees = sees_stream before user into
-
-    -- a picked message as the user sees it, and as it would be at the new place
-    abbrev pub shown_at : Bool → (Message → Message) → MessageId × Message → Option ShownMessage
-    shown_at seen change row = only_if seen (option_map (shown_message (change row.1)) (receipt_of before user row.0))
-
-    abbrev pub shown_before : MessageId × Message → Option ShownMessage
-    shown_before row = cond (picks row) (shown_at saw (λ row. row) row) (message_in before user row)
-
-    abbrev pub shown_after : MessageId × Message → Option ShownMessage
-    shown_after row = cond (picks row) (shown_at sees at_new row) (message_in before user row)
-
     -- with a receipt, a message in a stream is seen where the stream is
-    seen_there : (q : MessageId) (sender : UserId) (stream : StreamId) (t : List ℕ) (row : Message) (receipt : Option Receipt) → receipt_of before user q ≡ receipt
-        → only_if (sees_stream before user stream && (not (has_protected_history before stream) || is_some receipt)) (option_map (shown_message row) receipt)
+    seen_there : (stream : StreamId) (row : Message) (receipt : Option Receipt)
+        → only_if (sees_stream before user stream && (not (has_protected_history before user stream) || is_some receipt)) (option_map (shown_message row) receipt)
         ≡ only_if (sees_stream before user stream) (option_map (shown_message row) receipt)
-    seen_there q sender stream t row receipt is = go (sees_stream before user stream) (has_protected_history before stream) receipt
+    seen_there stream row receipt = go (sees_stream before user stream) (has_protected_history before user stream) receipt
       where
         go : (a b : Bool) (r : Option Receipt) → only_if (a && (not b || is_some r)) (option_map (shown_message row) r) ≡ only_if a (option_map (shown_message row) r)
         go false b r = refl
@@ -66,3 +71,34 @@ module _ (before : Tables) (rise : TablesSorted before) (picks : MessageId × Me
         go true true (Some r) = refl
         go true false None = refl
         go true false (Some r) = refl
+
+    module _ (stand : AllStandAt) where
+      pub before_is : messages before user ≡ sift (shown_with before user picks (at_topic from old_topic) (sees_stream before user from)) before.messages
+      before_is = sift_same message_order (message_in before user) (shown_with before user picks (at_topic from old_topic) (sees_stream before user from)) before.messages rise.messages (λ q v is. go q v is (picks (q, v)) refl)
+        where
+          go : (q : MessageId) (v : Message) → message_at before q ≡ Some v → (b : Bool) → picks (q, v) ≡ b
+              → message_in before user (q, v) ≡ cond b (shown_at before user picks (sees_stream before user from) (at_topic from old_topic) (q, v)) (message_in before user (q, v))
+          go q v is false off = refl
+          go q v is true on =
+              ap (λ (o : Option Message). only_if (option_map_or (λ row. sees_at before user q row.sender row.place) o false) (option_map (shown_message v) (receipt_of before user q))) is
+              ∙ ap (λ p. only_if (sees_at before user q v.sender p) (option_map (shown_message (record v { place = p })) (receipt_of before user q))) (stand q v is on)
+              ∙ seen_there from (at_topic from old_topic v) (receipt_of before user q)
+
+    pub after_is : messages after user ≡ sift (shown_with before user picks (at_topic into topic) (sees_stream before user into)) before.messages
+    after_is =
+        sift_patched (message_in after user) new_row before.messages
+        ∙ sift_same message_order (λ row. message_in after user (row.0, new_row row)) (shown_with before user picks (at_topic into topic) (sees_stream before user into)) before.messages rise.messages
+        (λ q v is. seen q v (row_at-written new_row message_order before.messages rise.messages q ∙ ap (option_map (λ w. new_row (q, w))) is) ∙ go q v is (picks (q, v)) refl)
+      where
+        -- the row of the message, as the tables afterwards have it
+        seen : (q : MessageId) (v : Message) → message_at after q ≡ Some (new_row (q, v)) → message_in after user (q, new_row (q, v))
+            ≡ only_if (sees_at before user q (new_row (q, v)).sender (new_row (q, v)).place) (option_map (shown_message (new_row (q, v))) (receipt_of before user q))
+        seen q v is =
+            ap (λ (o : Option Message). only_if (option_map_or (λ row. sees_at after user q row.sender row.place) o false) (option_map (shown_message (new_row (q, v))) (receipt_of before user q))) is
+
+        go : (q : MessageId) (v : Message) → message_at before q ≡ Some v → (b : Bool) → picks (q, v) ≡ b
+            → only_if (sees_at before user q (cond b (at_topic into topic v) v).sender (cond b (at_topic into topic v) v).place) (option_map (shown_message (cond b (at_topic into topic v) v)) (receipt_of before user q))
+            ≡ cond b (shown_at before user picks (sees_stream before user into) (at_topic into topic) (q, v)) (message_in before user (q, v))
+        go q v is false off =
+            ap (λ (o : Option Message). only_if (option_map_or (λ row. sees_at before user q row.sender row.place) o false) (option_map (shown_message v) (receipt_of before user q))) (sym is)
+        go q v is true on = seen_there into (at_topic into topic v) (receipt_of before user q)

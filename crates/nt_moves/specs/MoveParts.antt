@@ -15,30 +15,36 @@ use Rattle.ev_types.specs.declared.notice.Part.{Part}
 use Rattle.ev_types.specs.declared.rows.ShownMessage.{ShownMessage}
 use Rattle.nt_rules.specs.Parts.{to}
 use Rattle.zr_types.specs.declared.people.User.{User}
+use Rattle.zr_types.specs.declared.posts.Message.{Message}
 use Rattle.zr_types.specs.Tables.{Tables, message_at, receipt_of}
 use Rattle.zr_types.specs.Visibility.{sees_stream}
 use Rattle.zw_views.specs.Views.{shown_message}
 
+-- a message moved to a topic of a stream
+abbrev pub at_topic : StreamId → List ℕ → Message → Message
+at_topic stream topic row = record row { place = place.Stream stream topic }
+
+module _ (tables : Tables) (user : UserId) where
+  abbrev pub has_receipt : MessageId → Bool
+  has_receipt message = is_some (receipt_of tables user message)
+
+  -- a message that the user has a receipt for, as it is shown in a topic of a stream
+  abbrev pub shown_in : StreamId → List ℕ → MessageId → Option (MessageId × ShownMessage)
+  shown_in stream topic message =
+      option_and_then (λ row. option_map (λ receipt. (message, shown_message (at_topic stream topic row) receipt)) (receipt_of tables user message))
+      (message_at tables message)
+
 -- these messages move from one stream to a topic of a stream, which may be the same
 module _ (tables : Tables) (from into : StreamId) (topic : List ℕ) (moved : List MessageId) where
   module _ (user : UserId) where
-    abbrev pub has_receipt : MessageId → Bool
-    has_receipt message = is_some (receipt_of tables user message)
-
     -- those of them that the user has a receipt for
     abbrev pub received : List MessageId
-    received = filter has_receipt moved
-
-    -- one of them as the user sees it at its new place
-    abbrev pub shown_moved : MessageId → Option (MessageId × ShownMessage)
-    shown_moved message =
-        option_and_then (λ row. option_map (λ receipt. (message, shown_message (record row { place = place.Stream into topic }) receipt)) (receipt_of tables user message))
-        (message_at tables message)
+    received = filter (has_receipt tables user) moved
 
     -- what a user is told who sees the stream before, the one afterwards, both or neither
     abbrev pub told_where : Bool → Bool → List Event
     told_where true true = one_of (λ messages. MessageMoved messages into topic) received
-    told_where false true = arrivals (map (full_message tables.reactions) (filter_map shown_moved moved))
+    told_where false true = arrivals (map (full_message tables.reactions) (filter_map (shown_in tables user into topic) moved))
     told_where true false = one_of MessageGone received
     told_where false false = []
 
@@ -47,7 +53,7 @@ module _ (tables : Tables) (from into : StreamId) (topic : List ℕ) (moved : Li
 
     -- the user sees both streams and has all the messages
     abbrev pub has_all : Bool
-    has_all = sees_stream tables user from && (sees_stream tables user into && list_all has_receipt moved)
+    has_all = sees_stream tables user from && (sees_stream tables user into && list_all (has_receipt tables user) moved)
 
   -- such users share one part, and each other has parts of its own
   abbrev pub all_movers : List (UserId × ⊤)
