@@ -12,7 +12,7 @@ use Rattle.std.proofs.lemmas.Option.{same_Some}
 use Rattle.ev_rows.specs.KeyOrder.{KeyOrder}
 use Rattle.ev_rows.specs.Rows.{SortedByKey, keys_of, row_at}
 use Rattle.ev_rows.proofs.RiseLemmas.{IsBelow, above-below, rise_head, rise_tail}
-use Rattle.ev_rows.proofs.RowLemmas.{at_same, row_at-insert_entry, row_at_head, row_at_tail}
+use Rattle.ev_rows.proofs.RowLemmas.{row_at_head, row_at_tail}
 use Rattle.ev_base.specs.declared.ids.UserId.{UserId}
 use Rattle.ev_base.specs.declared.ids.StreamId.{StreamId}
 use Rattle.ev_base.specs.declared.ids.MessageId.{MessageId}

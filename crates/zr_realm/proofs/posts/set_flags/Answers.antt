@@ -13,7 +13,7 @@ pub loop-number-preserved : goal.loop-number-preserved
 loop-number-preserved c =
     let before = c.loop-number.invariant in
     let number = get_or c.args.messages.now c.loop-number.number-index 0 in
-    let step = λ (rows : List ((MessageId × UserId) × Receipt)) (message : MessageId). changed_at message_user_cmp (c.args.user, message) (receipt_with c.args.flag c.args.value) rows in
+    let step = λ (rows : List ((MessageId × UserId) × Receipt)) (message : MessageId). changed_at message_user_cmp (message, c.args.user) (receipt_with c.args.flag c.args.value) rows in
     record {
       sorted = subst (SortedByKey message_user_cmp) (sym c.set_flag.ensures.receipts)
           (sorted_changed message_user_order _ (receipt_with c.args.flag c.args.value) c.loop-number.posts.receipts.rows before.sorted);

@@ -10,6 +10,6 @@ abbrev pub invariant-loop-number : goal.invariant-loop-number
 invariant-loop-number l = record {
   sorted : SortedByKey message_user_cmp l.posts.receipts.rows;
   receipts : l.posts.receipts.rows
-      ≡ fold (λ rows message. changed_at message_user_cmp (l.fn.user, message) (receipt_with l.fn.flag l.fn.value) rows) l.fn.posts.receipts.rows (messages_of (take l.number-index l.messages));
+      ≡ fold (λ rows message. changed_at message_user_cmp (message, l.fn.user) (receipt_with l.fn.flag l.fn.value) rows) l.fn.posts.receipts.rows (messages_of (take l.number-index l.messages));
   messages : l.posts.messages ≡ l.fn.posts.messages;
 }
