@@ -18,11 +18,12 @@ use Rattle.ev_types.specs.declared.notice.Audience.TheVariants.{Everyone, Only}
 use Rattle.nt_people.specs.PeopleParts.{message_sight, realm_parts, stream_sight}
 use Rattle.nt_people.proofs.SightShift.{message_shift, no_subscription, peer_shift, shifted, stream_shift}
 use Rattle.nt_people.proofs.Still.{no_receipts, nothing_opens, same_messages, same_streams}
-use Rattle.nt_people.proofs.UserRows.{events_of_row, no_user, one_user}
+use Rattle.nt_people.proofs.UserRows.{events_of_row, one_user}
 use Rattle.nt_rules.specs.Parts.{heard_of, to}
 use Rattle.nt_rules.proofs.FieldsStay.{same_text}
 use Rattle.nt_rules.proofs.Heard.{has_one, heard_to}
 use Rattle.nt_rules.proofs.Six.{six}
+use Rattle.nt_rules.proofs.StreamsStay.{no_user}
 use Rattle.zr_types.specs.declared.command.NameField.{NameField}
 use Rattle.zr_types.specs.declared.command.NameField.TheVariants as field
 use Rattle.zr_types.specs.declared.people.RealmRow.{RealmRow}

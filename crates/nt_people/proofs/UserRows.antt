@@ -4,7 +4,7 @@ use Rattle.std.specs.BTreeMap.{is_at}
 use Rattle.ev_rows.specs.Rows.{AgreeBut, SortedByKey, events_at, made_of, only_if, row_at, sift}
 use Rattle.ev_rows.proofs.RiseLemmas.{rise-sift}
 use Rattle.ev_rows.proofs.RowLemmas.{AgreeBut-sift, at_itself, row_at-sift, same_rows}
-use Rattle.ev_rows.proofs.ChangeLemmas.{keyed_at, keyed_quiet}
+use Rattle.ev_rows.proofs.ChangeLemmas.{keyed_at}
 use Rattle.ev_base.specs.Orders.{user_cmp, user_order}
 use Rattle.ev_base.specs.declared.ids.UserId.{UserId}
 use Rattle.ev_base.specs.declared.ids.StreamId.{StreamId}
@@ -52,12 +52,6 @@ module _ (before after : Tables) (old_rise : SortedByKey user_cmp before.users) 
       (AgreeBut-sift user_order (λ row. Some (shown_user row.1)) (λ row. Some (shown_user row.1)) before.users after.users user old_rise new_rise agree (λ q v off. refl))
       ∙ ap (λ o. events_of_row user o (row_at user_cmp (shown_users after.users) user)) (at_shown before.users old_rise user)
       ∙ ap (λ o. events_of_row user (option_map shown_user (user_at before user)) o) (at_shown after.users new_rise user)
-
--- users that stay make no events
-pub no_user : (tables : Tables) → SortedByKey user_cmp tables.users → user_events (realm_users tables) (realm_users tables) ≡ []
-no_user tables rise =
-    ap (λ rows. user_events rows rows) (users_are_sifted tables)
-    ∙ keyed_quiet user_order (map (λ row. UserAdd row.0 row.1)) user_changes (λ _. []) user_stays (shown_users tables.users) (rise_shown tables.users rise) refl refl
 
 module _ (tables : Tables) (rise : SortedByKey user_cmp tables.users) (user : UserId) (change : User → User) where
   abbrev after : Tables

@@ -1,7 +1,10 @@
 pub mod Alike
+pub mod EachChanged
 pub mod FieldsStay
 pub mod MessageChanges
 pub mod PeerChanges
 pub mod Heard
 pub mod Sight
 pub mod Six
+pub mod WrittenOver
+pub mod StreamsStay

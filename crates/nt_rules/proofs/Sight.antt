@@ -2,6 +2,7 @@
 use Rattle.std.proofs.Common.{◌≡◌, ℕ, Bool, true, false, ◌&&◌, List, [], ◌∷◌, ◌++◌, flat_map, Option, None, Some, is_some, option_map, option_and_then, sym, ap, refl, ◌∙◌}
 use Rattle.std.specs.BTreeMap.{is_at}
 use Rattle.std.specs.List.{cons_option, filter_map}
+use Rattle.std.specs.Option.{option_map_or}
 use Rattle.std.specs.declared.cmp.Ordering.{Ordering}
 use Rattle.std.proofs.lemmas.Option.{same_Some}
 use Rattle.std.proofs.lemmas.Bool.{false≢true}
@@ -20,7 +21,7 @@ use Rattle.zr_types.specs.declared.posts.Message.{Message}
 use Rattle.zr_types.specs.declared.posts.Receipt.{Receipt}
 use Rattle.zr_types.specs.Sound.{TablesSorted}
 use Rattle.zr_types.specs.Tables.{Tables, message_at, receipt_of}
-use Rattle.zr_types.specs.Visibility.{sees_message}
+use Rattle.zr_types.specs.Visibility.{sees_at, sees_message}
 use Rattle.zw_views.specs.RowViews.{message_in, reaction_in}
 use Rattle.zw_views.specs.Views.{has_message, messages, reactions, shown_message, view_of}
 use Rattle.nt_rules.specs.Laws.{come_and_go}
@@ -52,16 +53,22 @@ module _ (tables : Tables) (rise : TablesSorted tables) (user : UserId) where
       ≡ option_and_then (λ row. only_if (has_message tables user q.0) (Some row)) (row_at reaction_cmp tables.reactions q)
   at_reactions q = row_at-sift reaction_order (reaction_in tables user) tables.reactions q rise.reactions
 
-  -- a message in the view is one that the user sees and has a receipt for
-  pub has_shown : (q : MessageId) → is_some (row_at message_cmp (messages tables user) q) ≡ true → has_message tables user q ≡ true
-  has_shown q is = go (message_at tables q) (sees_message tables user q) (receipt_of tables user q) (sym (ap is_some (at_messages q)) ∙ is)
+  -- the messages in the view are those that the user sees and has a receipt for
+  pub has_cell : (q : MessageId) → is_some (row_at message_cmp (messages tables user) q) ≡ has_message tables user q
+  has_cell q = ap is_some (at_messages q) ∙ go (message_at tables q) refl
     where
-      go : (o : Option Message) (sees : Bool) (receipt : Option Receipt)
-          → is_some (option_and_then (λ row. only_if sees (option_map (shown_message row) receipt)) o) ≡ true → (sees && is_some receipt) ≡ true
-      go None sees receipt is = absurd (false≢true is)
-      go (Some row) true None is = absurd (false≢true is)
-      go (Some row) true (Some receipt) is = refl
-      go (Some row) false receipt is = absurd (false≢true is)
+      given : (row : Message) (sees : Bool) (receipt : Option Receipt) → is_some (only_if sees (option_map (shown_message row) receipt)) ≡ (sees && is_some receipt)
+      given row true None = refl
+      given row true (Some receipt) = refl
+      given row false receipt = refl
+
+      go : (o : Option Message) → message_at tables q ≡ o
+          → is_some (option_and_then (λ row. only_if (sees_message tables user q) (option_map (shown_message row) (receipt_of tables user q))) o) ≡ has_message tables user q
+      go None is = ap (λ (o : Option Message). option_map_or (λ row. sees_at tables user q row.sender row.place) o false && is_some (receipt_of tables user q)) (sym is)
+      go (Some row) is = given row (sees_message tables user q) (receipt_of tables user q)
+
+  pub has_shown : (q : MessageId) → is_some (row_at message_cmp (messages tables user) q) ≡ true → has_message tables user q ≡ true
+  has_shown q is = sym (has_cell q) ∙ is
 
   -- of such a message the view has all reactions
   pub whole_message : (row : MessageId × ShownMessage) → has_message tables user row.0 ≡ true
