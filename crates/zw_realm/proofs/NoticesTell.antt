@@ -1,11 +1,11 @@
 -- The parts that are made by comparing views tell every user number what changed.
-use Rattle.std.proofs.Common.{◌≡◌, ℕ, Bool, true, false, cond, not, ◌&&◌, ◌||◌, ◌==◌, eqb, List, [], ◌∷◌, ◌++◌, map, flat_map, append-nil, append_assoc, Option, None, Some, is_some, option_map, option_and_then, refl, ap, ap₂, sym, subst, ◌∙◌}
-use Rattle.std.specs.List.{filter_map, list_any}
+use Rattle.std.proofs.Common.{◌≡◌, ℕ, Bool, true, false, ◌==◌, List, [], ◌∷◌, ◌++◌, map, flat_map, append_assoc, Option, None, Some, refl, ap, ap₂, sym, ◌∙◌}
+use Rattle.std.specs.List.{filter_map}
 use Rattle.std.specs.Option.{option_map_or}
 use Rattle.std.specs.BTreeMap.{is_at}
 use Rattle.std.proofs.lemmas.Bool.{false≢true, eq-eqb, eqb-true}
 use Rattle.std.proofs.lemmas.List.Elements.{filter_map-append}
-use Rattle.ev_rows.specs.Rows.{SortedByKey, row_at, only_if, sift, made_of}
+use Rattle.ev_rows.specs.Rows.{only_if, sift, made_of}
 use Rattle.ev_rows.proofs.RowLemmas.{flat_map_at, at_itself}
 use Rattle.ev_base.specs.declared.ids.UserId.{UserId}
 use Rattle.ev_base.specs.declared.ids.MessageId.{MessageId}
@@ -14,16 +14,14 @@ use Rattle.ev_base.specs.declared.place.Place.TheVariants as place
 use Rattle.ev_base.specs.Orders.{user_cmp, user_order}
 use Rattle.ev_types.specs.declared.event.Event.{Event}
 use Rattle.ev_types.specs.declared.notice.Part.{Part}
-use Rattle.ev_types.specs.declared.notice.Notice.{Notice}
 use Rattle.ev_types.specs.Audiences.{has_user, events_for}
 use Rattle.zr_types.specs.declared.people.User.{User}
-use Rattle.zr_types.specs.declared.streams.Stream.{Stream}
 use Rattle.zr_types.specs.declared.posts.Message.{Message}
-use Rattle.zr_types.specs.Tables.{Tables, user_at, stream_at, message_at, receipt_of}
+use Rattle.zr_types.specs.Tables.{Tables, user_at, message_at}
 use Rattle.zr_types.specs.Sound.{TablesSorted}
-use Rattle.zr_types.specs.Visibility.{sees_stream, sees_message, sees_at, same_user, is_among}
+use Rattle.zr_types.specs.Visibility.{sees_stream, sees_message, sees_at}
 use Rattle.zw_views.specs.RowViews as row
-use Rattle.zw_views.specs.Views.{view_of, realm_users, shown_realm, streams, subscriptions, subscribers, messages, reactions}
+use Rattle.zw_views.specs.Views.{view_of, streams, subscriptions, subscribers, messages, reactions}
 use Rattle.ev_types.specs.Changes.{changes_between, stream_events, subscription_events, peer_events, message_events}
 use Rattle.zw_realm.specs.SlowNotices.{common_changes, own_changes, for_everyone, for_one, slow_parts}
 

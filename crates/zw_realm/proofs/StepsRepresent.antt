@@ -1,5 +1,5 @@
 -- What the core does with an input is right after every trace that the core represents.
-use Rattle.std.proofs.Common.{◌≡◌, ℕ, ◌+◌, ◌-◌, ◌≤◌, List, [], ◌∷◌, Option, length, length-append, length-take, length-drop, drop, min, ap, ap₂, sym, subst, refl, ◌∙◌, add-one, arith}
+use Rattle.std.proofs.Common.{◌≡◌, ℕ, ◌+◌, ◌-◌, ◌≤◌, List, [], ◌∷◌, length, length-append, length-take, length-drop, drop, min, ap, ap₂, sym, subst, refl, ◌∙◌, add-one, arith}
 use Rattle.ev_base.specs.declared.ids.UserId.{UserId}
 use Rattle.zr_types.specs.declared.command.Command.{Command}
 use Rattle.ev_types.specs.declared.notice.Notice.{Notice}

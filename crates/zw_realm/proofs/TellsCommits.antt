@@ -1,5 +1,5 @@
 -- The notice that is made by comparing views tells what a commit changed.
-use Rattle.std.proofs.Common.{◌≡◌, ℕ, ◌+◌, ◌≤◌, List, Option, None, Some, refl, ap, sym, ◌∙◌, arith}
+use Rattle.std.proofs.Common.{◌≡◌, ℕ, Option, None, Some, refl, ap, sym, ◌∙◌, arith}
 use Rattle.std.specs.List.{filter_map}
 use Rattle.ev_rows.specs.Rows.{only_if}
 use Rattle.ev_rows.proofs.PlaceLemmas.{lookup-below}

@@ -1,6 +1,6 @@
 //! The core of a realm, which answers its inputs one at a time.
 
-ghost use Rattle.std.specs.Prelude.{◌≡◌, ◌+◌, ◌≤◌, IfOk, List, OnErr, [], ◌∷◌, length};
+ghost use Rattle.std.specs.Prelude.{◌≡◌, ◌+◌, ◌≤◌, IfOk, List, OnErr, [], ◌∷◌, length, true};
 ghost use Rattle.zr_types.specs.declared.command.Command.{Command};
 ghost use Rattle.zr_types.specs.Checks.{IsChangeOf, WasChecked};
 ghost use Rattle.zr_types.specs.Commits.{IsCommitted};

@@ -1,10 +1,10 @@
-use Rattle.std.proofs.Common.{◌≡◌, ◌∙◌, ℕ, List, ◌++◌, ◌<◌, ap, ap₂, arith, flat_map, map, drop, take, length, sym}
+use Rattle.std.proofs.Common.{◌≡◌, ◌∙◌, ℕ, List, ◌++◌, ◌<◌, ap, ap₂, arith, flat_map, map, drop, length}
 use Rattle.ev_rows.specs.Rows.{keys_of}
 use Rattle.ev_base.specs.declared.ids.UserId.{UserId}
 use Rattle.ev_types.specs.declared.event.Event.{Event}
 use Rattle.ev_types.specs.declared.notice.Part.{Part}
 use Rattle.zr_types.specs.declared.people.User.{User}
-use Rattle.zw_realm.specs.SlowNotices.{for_everyone, for_one, told_to, told_to_all}
+use Rattle.zw_realm.specs.SlowNotices.{for_everyone, for_one, told_to}
 use Rattle.ev_laws.proofs.Loops.{flat_map_next, take_whole}
 use Rattle.zw_realm.proofs.comparing.compared_notice.Goals as goal
 

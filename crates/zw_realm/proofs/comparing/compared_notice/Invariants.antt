@@ -1,4 +1,4 @@
-use Rattle.std.proofs.Common.{◌≡◌, ◌++◌, map, flat_map, take}
+use Rattle.std.proofs.Common.{◌≡◌, ◌++◌, flat_map, take}
 use Rattle.ev_rows.specs.Rows.{keys_of}
 use Rattle.zw_realm.specs.SlowNotices.{told_to}
 use Rattle.zw_realm.proofs.comparing.compared_notice.Given as goal

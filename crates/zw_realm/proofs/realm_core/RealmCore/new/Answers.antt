@@ -1,5 +1,5 @@
 -- A realm before any commit.
-use Rattle.std.proofs.Common.{◌≡◌, ◌∙◌, length, ap, sym, subst, arith}
+use Rattle.std.proofs.Common.{◌∙◌, length, ap, sym, subst, arith}
 use Rattle.zr_types.specs.Tables.{RealmState}
 use Rattle.zw_views.specs.Laws.{IsCounted}
 use Rattle.zw_views.proofs.ViewsCompare.{opening_counted}

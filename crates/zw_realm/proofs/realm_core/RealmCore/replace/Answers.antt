@@ -1,5 +1,5 @@
 -- The realm after a commit, with its notice.
-use Rattle.std.proofs.Common.{◌≡◌, ◌∙◌, ◌+◌, [], ◌∷◌, ◌++◌, length, ap, sym, subst, arith}
+use Rattle.std.proofs.Common.{◌∙◌, ◌+◌, [], ◌∷◌, ◌++◌, length, ap, sym, subst, arith}
 use Rattle.zw_realm.specs.CoreStates.{CoreState}
 use Rattle.zw_realm.specs.CoreSteps.{IsAfterCommand, TellsCommit}
 use Rattle.zw_realm.proofs.Laying.{counted_after, one_longer, one_more_commit, told}
