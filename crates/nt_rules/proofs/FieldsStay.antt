@@ -56,11 +56,11 @@ stream_stays stream row =
 pub subscription_stays : (stream : StreamId) (row : ShownSubscription) → subscription_changes (stream, (row, row)) ≡ []
 subscription_stays stream row = rw (same_text row.color, same_bool row.is_muted, same_bool row.pin_to_top) refl
 
-place_stays : (at : Place) → same_place at at ≡ true
+pub place_stays : (at : Place) → same_place at at ≡ true
 place_stays (place.Stream stream topic) = rw (same_number stream.0, same_text topic) refl
 place_stays (place.Direct recipients) = refl
 
-abbrev with_kept : Moves → KeptMessage → Moves
+abbrev pub with_kept : Moves → KeptMessage → Moves
 with_kept moves row = option_map_or (λ to. with_move moves to row.0) (moved_to row) moves
 
 module _ (new : MessageId × ShownMessage → ShownMessage) (stays : (row : MessageId × ShownMessage) → (new row).place ≡ row.1.place) where

@@ -21,11 +21,14 @@ pub record MessagesStay (before after : Sections) : Type 0 where
   pub alike : AlikeWhereKept message_cmp before.messages after.messages
   pub reactions : (key : ReactionKey) → is_kept before after key.0 ≡ true → row_at reaction_cmp before.reactions key ≡ row_at reaction_cmp after.reactions key
 
-no_reactions : (before after : Sections) → MessagesStay before after → reaction_events before after ≡ []
-no_reactions before after stay =
+-- no reaction to a message in both views comes or goes where these stay
+pub no_reactions : (before after : Sections) → SortedByKey reaction_cmp before.reactions → SortedByKey reaction_cmp after.reactions
+    → ((key : ReactionKey) → is_kept before after key.0 ≡ true → row_at reaction_cmp before.reactions key ≡ row_at reaction_cmp after.reactions key)
+    → reaction_events before after ≡ []
+no_reactions before after old_rise new_rise same =
     rw (
-      none_gained reaction_order (λ key. is_kept before after key.0) before.reactions after.reactions stay.new_reactions stay.reactions,
-      none_gained reaction_order (λ key. is_kept before after key.0) after.reactions before.reactions stay.old_reactions (λ key is. sym (stay.reactions key is)),
+      none_gained reaction_order (λ key. is_kept before after key.0) before.reactions after.reactions new_rise same,
+      none_gained reaction_order (λ key. is_kept before after key.0) after.reactions before.reactions old_rise (λ key is. sym (same key is)),
     ) refl
 
 pub messages_stay : (before after : Sections) → MessagesStay before after → message_events before after ≡ come_and_go before after
@@ -38,7 +41,7 @@ messages_stay before after stay =
       no_moves same (λ row. refl) (staying message_order before.messages after.messages),
       no_edits same (λ row. refl) (staying message_order before.messages after.messages),
       no_flags same (λ row. refl) (staying message_order before.messages after.messages),
-      no_reactions before after stay,
+      no_reactions before after stay.old_reactions stay.new_reactions stay.reactions,
     )
     (simp append-nil))
 

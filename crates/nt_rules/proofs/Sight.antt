@@ -1,5 +1,5 @@
 -- What tables that have the same messages show, where the sight of streams may change.
-use Rattle.std.proofs.Common.{◌≡◌, ℕ, Bool, true, false, ◌&&◌, List, [], ◌∷◌, ◌++◌, flat_map, Option, None, Some, is_some, option_map, option_and_then, sym, ap, refl, ◌∙◌}
+use Rattle.std.proofs.Common.{◌≡◌, ℕ, Bool, true, false, ◌&&◌, List, [], ◌∷◌, ◌++◌, flat_map, map, Option, None, Some, is_some, option_map, option_and_then, sym, ap, refl, ◌∙◌}
 use Rattle.std.specs.BTreeMap.{is_at}
 use Rattle.std.specs.List.{cons_option, filter_map}
 use Rattle.std.specs.Option.{option_map_or}
@@ -7,15 +7,15 @@ use Rattle.std.specs.declared.cmp.Ordering.{Ordering}
 use Rattle.std.proofs.lemmas.Option.{same_Some}
 use Rattle.std.proofs.lemmas.Bool.{false≢true}
 use Rattle.ev_rows.specs.KeyOrder.{KeyOrder}
-use Rattle.ev_rows.specs.Rows.{SortedByKey, only_if, row_at, sift}
+use Rattle.ev_rows.specs.Rows.{SortedByKey, fresh, gained, only_if, row_at, sift}
 use Rattle.ev_rows.proofs.RiseLemmas.{rise-sift, rise_tail}
 use Rattle.ev_rows.proofs.RowLemmas.{at_same, later_row, row_at-sift, row_at_head}
-use Rattle.ev_rows.proofs.ChangeLemmas.{gained_same}
+use Rattle.ev_rows.proofs.ChangeLemmas.{gained_same, rise-gained, row_at-gained}
 use Rattle.ev_base.specs.Orders.{message_cmp, message_order, reaction_cmp, reaction_order, message_user_cmp}
 use Rattle.ev_base.specs.declared.ids.UserId.{UserId}
 use Rattle.ev_base.specs.declared.ids.MessageId.{MessageId}
 use Rattle.ev_types.specs.declared.rows.ShownMessage.{ShownMessage}
-use Rattle.ev_types.specs.Changes.{full_message, is_kept, message_events}
+use Rattle.ev_types.specs.Changes.{full_message, is_kept, message_events, reaction_events}
 use Rattle.ev_types.specs.Sections.{ReactionKey}
 use Rattle.zr_types.specs.declared.posts.Message.{Message}
 use Rattle.zr_types.specs.declared.posts.Receipt.{Receipt}
@@ -26,7 +26,7 @@ use Rattle.zw_views.specs.RowViews.{message_in, reaction_in}
 use Rattle.zw_views.specs.Views.{has_message, messages, reactions, shown_message, view_of}
 use Rattle.nt_rules.specs.Laws.{come_and_go}
 use Rattle.nt_rules.proofs.Alike.{AlikeWhereKept}
-use Rattle.nt_rules.proofs.MessageChanges.{messages_stay}
+use Rattle.nt_rules.proofs.MessageChanges.{messages_stay, no_reactions}
 
 module _ {K V W : Type 0} {cmp : K → K → Ordering} (order : KeyOrder cmp) (f g : K × V → Option W) where
   -- functions that agree on the rows make the same list of them
@@ -42,6 +42,14 @@ module _ {K V E : Type 0} {cmp : K → K → Ordering} (order : KeyOrder cmp) (f
   flat_map_agree (row ∷ rows) rise same =
       ap (λ l. l ++ flat_map f rows) (same row.0 row.1 (row_at_head order row rows))
       ∙ ap (λ l. g row ++ l) (flat_map_agree rows (rise_tail cmp row rows rise) (λ q v is. same q v (later_row order row rows rise q v is)))
+
+module _ {K V X : Type 0} {cmp : K → K → Ordering} (order : KeyOrder cmp) (f g : K × V → X) where
+  -- what is made of rows by functions that agree on them
+  pub map_agree : (rows : List (K × V)) → SortedByKey cmp rows → ((q : K) (v : V) → row_at cmp rows q ≡ Some v → f (q, v) ≡ g (q, v)) → map f rows ≡ map g rows
+  map_agree [] rise same = refl
+  map_agree (row ∷ rows) rise same =
+      ap (λ x. x ∷ map f rows) (same row.0 row.1 (row_at_head order row rows))
+      ∙ ap (λ l. g row ∷ l) (map_agree rows (rise_tail cmp row rows rise) (λ q v is. same q v (later_row order row rows rise q v is)))
 
 module _ (tables : Tables) (rise : TablesSorted tables) (user : UserId) where
   -- the row of a message and of a reaction in a view
@@ -93,6 +101,44 @@ module _ (tables : Tables) (rise : TablesSorted tables) (user : UserId) where
       go [] = refl
       go (reaction ∷ rows) = step reaction rows (is_at (message_cmp row.0) reaction.0.0) refl (go rows)
 
+  -- so of those that a view gains
+  pub whole_arrivals : (before : List (MessageId × ShownMessage))
+      → map (full_message (reactions tables user)) (gained message_cmp before (messages tables user)) ≡ map (full_message tables.reactions) (gained message_cmp before (messages tables user))
+  whole_arrivals before =
+      map_agree message_order (full_message (reactions tables user)) (full_message tables.reactions) (gained message_cmp before (messages tables user)) (rise-gained message_cmp before (messages tables user) messages_rise)
+      (λ q v is. whole_message (q, v) (has_shown q (there v (row_at message_cmp before q) (row_at message_cmp (messages tables user) q) (sym (row_at-gained message_order before (messages tables user) messages_rise q) ∙ is))))
+    where
+      messages_rise : SortedByKey message_cmp (messages tables user)
+      messages_rise = rise-sift message_cmp (message_in tables user) tables.messages rise.messages
+
+      there : (v : ShownMessage) (a b : Option ShownMessage) → fresh a b ≡ Some v → is_some b ≡ true
+      there v None None is = cc
+      there v None (Some b) is = refl
+      there v (Some a) b is = cc
+
+module _ (before after : Tables) (old_rise : TablesSorted before) (new_rise : TablesSorted after) (user : UserId)
+    (same_reactions : after.reactions ≡ before.reactions) where
+  -- messages in both views have the same reactions there
+  pub kept_reactions : (key : ReactionKey) → is_kept (view_of before user) (view_of after user) key.0 ≡ true
+      → row_at reaction_cmp (reactions before user) key ≡ row_at reaction_cmp (reactions after user) key
+  kept_reactions key kept =
+      go (is_some (row_at message_cmp (messages before user) key.0)) (is_some (row_at message_cmp (messages after user) key.0)) refl refl kept
+    where
+      go : (a b : Bool) → is_some (row_at message_cmp (messages before user) key.0) ≡ a → is_some (row_at message_cmp (messages after user) key.0) ≡ b → (a && b) ≡ true
+          → row_at reaction_cmp (reactions before user) key ≡ row_at reaction_cmp (reactions after user) key
+      go false b was is both = absurd (false≢true both)
+      go true false was is both = absurd (false≢true both)
+      go true true was is both =
+          at_reactions before old_rise user key
+          ∙ ap (λ b. option_and_then (λ row. only_if b (Some row)) (row_at reaction_cmp before.reactions key)) (has_shown before old_rise user key.0 was ∙ sym (has_shown after new_rise user key.0 is))
+          ∙ ap (λ rows. option_and_then (λ row. only_if (has_message after user key.0) (Some row)) (row_at reaction_cmp rows key)) (sym same_reactions)
+          ∙ sym (at_reactions after new_rise user key)
+
+  pub no_reaction_changes : reaction_events (view_of before user) (view_of after user) ≡ []
+  no_reaction_changes =
+      no_reactions (view_of before user) (view_of after user) (rise-sift reaction_cmp (reaction_in before user) before.reactions old_rise.reactions)
+      (rise-sift reaction_cmp (reaction_in after user) after.reactions new_rise.reactions) kept_reactions
+
 module _ (before after : Tables) (old_rise : TablesSorted before) (new_rise : TablesSorted after) (user : UserId)
     (same_messages : after.messages ≡ before.messages) (same_receipts : after.receipts ≡ before.receipts) (same_reactions : after.reactions ≡ before.reactions) where
   alike : AlikeWhereKept message_cmp (messages before user) (messages after user)
@@ -120,21 +166,6 @@ module _ (before after : Tables) (old_rise : TablesSorted before) (new_rise : Ta
       go (Some m) p (Some k) s true true same_o same_r is now =
           same_Some old new (sym is ∙ sym (ap (λ (o : Option Message). option_and_then (λ row. only_if true (option_map (shown_message row) s)) o) same_o ∙ ap (λ (r : Option Receipt). option_map (shown_message m) r) same_r) ∙ now)
 
-  kept_reactions : (key : ReactionKey) → is_kept (view_of before user) (view_of after user) key.0 ≡ true
-      → row_at reaction_cmp (reactions before user) key ≡ row_at reaction_cmp (reactions after user) key
-  kept_reactions key kept =
-      go (is_some (row_at message_cmp (messages before user) key.0)) (is_some (row_at message_cmp (messages after user) key.0)) refl refl kept
-    where
-      go : (a b : Bool) → is_some (row_at message_cmp (messages before user) key.0) ≡ a → is_some (row_at message_cmp (messages after user) key.0) ≡ b → (a && b) ≡ true
-          → row_at reaction_cmp (reactions before user) key ≡ row_at reaction_cmp (reactions after user) key
-      go false b was is both = absurd (false≢true both)
-      go true false was is both = absurd (false≢true both)
-      go true true was is both =
-          at_reactions before old_rise user key
-          ∙ ap (λ b. option_and_then (λ row. only_if b (Some row)) (row_at reaction_cmp before.reactions key)) (has_shown before old_rise user key.0 was ∙ sym (has_shown after new_rise user key.0 is))
-          ∙ ap (λ rows. option_and_then (λ row. only_if (has_message after user key.0) (Some row)) (row_at reaction_cmp rows key)) (sym same_reactions)
-          ∙ sym (at_reactions after new_rise user key)
-
   -- messages only come and go
   pub sight_changes : message_events (view_of before user) (view_of after user) ≡ come_and_go (view_of before user) (view_of after user)
   sight_changes = messages_stay (view_of before user) (view_of after user) (record {
@@ -142,7 +173,7 @@ module _ (before after : Tables) (old_rise : TablesSorted before) (new_rise : Ta
     old_reactions = rise-sift reaction_cmp (reaction_in before user) before.reactions old_rise.reactions;
     new_reactions = rise-sift reaction_cmp (reaction_in after user) after.reactions new_rise.reactions;
     alike = alike;
-    reactions = kept_reactions;
+    reactions = kept_reactions before after old_rise new_rise user same_reactions;
   })
 
   -- and nothing happens where the same are shown
