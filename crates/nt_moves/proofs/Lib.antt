@@ -2,3 +2,4 @@ pub mod MovedRows
 pub mod MoveTold
 pub mod MoveChanges
 pub mod KeptMoves
+pub mod MovesTold

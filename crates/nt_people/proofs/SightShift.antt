@@ -3,12 +3,10 @@
 use Rattle.std.proofs.Common.{◌≡◌, Bool, true, false, not, ◌&&◌, ◌||◌, List, [], ◌∷◌, ◌++◌, map, flat_map, Option, None, Some, is_some, option_map, option_and_then, sym, ap, refl, ◌∙◌, append-nil, append_assoc}
 use Rattle.std.specs.Option.{option_map_or}
 use Rattle.std.proofs.lemmas.Option.{same_Some}
-use Rattle.std.specs.declared.cmp.Ordering.{Ordering}
-use Rattle.ev_rows.specs.KeyOrder.{KeyOrder}
 use Rattle.ev_rows.specs.Rows.{SortedByKey, fresh, gained, keys_of, lost, made_of, one_of, only_if, row_at}
-use Rattle.ev_rows.proofs.RiseLemmas.{rise-sift, rise_tail}
-use Rattle.ev_rows.proofs.RowLemmas.{later_row, only_if-None, row_at-sift, row_at_head}
-use Rattle.ev_rows.proofs.ChangeLemmas.{fresh-same, gained_same, keyed_quiet, rise-gained, row_at-gained}
+use Rattle.ev_rows.proofs.RiseLemmas.{rise-sift}
+use Rattle.ev_rows.proofs.RowLemmas.{only_if-None, row_at-sift}
+use Rattle.ev_rows.proofs.ChangeLemmas.{fresh-same, gained_same, keyed_quiet}
 use Rattle.ev_rows.proofs.SiftLemmas.{gained_sifts}
 use Rattle.ev_base.specs.Orders.{message_cmp, message_order, stream_cmp, stream_order, user_cmp, user_order}
 use Rattle.ev_base.specs.declared.ids.UserId.{UserId}
@@ -20,7 +18,6 @@ use Rattle.ev_base.specs.declared.place.Place.TheVariants as place
 use Rattle.ev_types.specs.Changes.{arrivals, changes_between, full_message, message_events, peer_events, stream_changes, stream_events, subscription_changes, subscription_events, user_events}
 use Rattle.ev_types.specs.declared.event.Event.{Event}
 use Rattle.ev_types.specs.declared.event.Event.TheVariants.{MessageGone, PeerAdd, PeerRemove, StreamCreate, StreamDelete, SubAdd, SubRemove}
-use Rattle.ev_types.specs.declared.rows.ShownMessage.{ShownMessage}
 use Rattle.ev_types.specs.declared.rows.ShownStream.{ShownStream}
 use Rattle.zr_types.specs.declared.people.User.{User}
 use Rattle.zr_types.specs.declared.posts.Message.{Message}
@@ -31,7 +28,7 @@ use Rattle.zr_types.specs.Sound.{TablesSorted}
 use Rattle.zr_types.specs.Tables.{Tables, message_at, receipt_of, stream_at, subscription_of, user_at}
 use Rattle.zr_types.specs.Visibility.{has_protected_history, is_among, is_subscribed, same_user, is_user, role_of, sees_at, sees_by, sees_stream}
 use Rattle.zw_views.specs.RowViews.{message_in, stream_in, subscription_in}
-use Rattle.zw_views.specs.Views.{messages, peers, reactions, realm_users, shown_message, shown_realm, shown_stream, shown_subscription, streams, subscriptions, view_of}
+use Rattle.zw_views.specs.Views.{messages, peers, realm_users, shown_message, shown_realm, shown_stream, shown_subscription, streams, subscriptions, view_of}
 use Rattle.nt_rules.specs.Parts.{gained_peers, lost_peers}
 use Rattle.nt_rules.proofs.Alike.{AlikeWhereKept, keyed_alike}
 use Rattle.nt_rules.proofs.FieldsStay.{realm_stays, stream_stays, subscription_stays}
@@ -248,7 +245,7 @@ module _ (before : Tables) (rise : TablesSorted before) (users : List (UserId ×
       pub message_shift : message_events (view_of before user) (view_of with_users user) ≡ message_sight before user old new
       message_shift =
           sight_changes before with_users rise still_rise user refl refl refl
-          ∙ ap (λ full. arrivals full ++ one_of MessageGone (keys_of (lost message_cmp (messages before user) (messages with_users user)))) (whole_arrivals (messages before user) with_users still_rise user)
+          ∙ ap (λ full. arrivals full ++ one_of MessageGone (keys_of (lost message_cmp (messages before user) (messages with_users user)))) (whole_arrivals with_users still_rise user (messages before user))
           ∙ ap (λ rows. arrivals (map (full_message before.reactions) rows) ++ one_of MessageGone (keys_of (lost message_cmp (messages before user) (messages with_users user)))) gained_messages
           ∙ ap (λ rows. arrivals (map (full_message before.reactions) (arrived before user old new)) ++ one_of MessageGone (keys_of rows)) lost_messages
 

@@ -23,7 +23,6 @@ use Rattle.nt_rules.specs.Parts.{to, viewers}
 use Rattle.zr_types.specs.declared.command.NameField.{NameField}
 use Rattle.zr_types.specs.declared.command.NameField.TheVariants as field
 use Rattle.zr_types.specs.declared.people.RealmRow.{RealmRow}
-use Rattle.zr_types.specs.declared.command.Command.{Command}
 use Rattle.zr_types.specs.declared.command.Command.TheVariants.{People}
 use Rattle.zr_types.specs.declared.command.PeopleCommand.{PeopleCommand}
 use Rattle.zr_types.specs.declared.command.PeopleCommand.TheVariants as of_people
