@@ -17,6 +17,7 @@ use Rattle.ev_types.specs.declared.event.Event.{Event}
 use Rattle.ev_types.specs.declared.event.Event.TheVariants.{MessageGone, MessageMoved}
 use Rattle.ev_types.specs.declared.notice.Audience.TheVariants.{Only}
 use Rattle.nt_rules.specs.Parts.{heard_of, to}
+use Rattle.nt_rules.proofs.Alike.{either_way}
 use Rattle.nt_rules.proofs.Heard.{has_keys, has_one, heard_both, heard_each, heard_to}
 use Rattle.nt_rules.proofs.Sight.{no_reaction_changes, whole_arrivals}
 use Rattle.zr_types.specs.declared.people.User.{User}
@@ -150,13 +151,9 @@ module _ (tables : Tables) (rise : TablesSorted tables) (from into : StreamId) (
   own =
       heard_each user (own_parts tables from into topic moved) tables.users
       ∙ flat_map_at user_order own_heard tables.users user rise.users
-      (λ q v off is. own_is q v ∙ ap (λ b. cond (has_all tables from into topic moved q) [] (cond b (move_told tables from into topic moved q) [])) (at_turned user_order user q ∙ off) ∙ nothing (has_all tables from into topic moved q))
+      (λ q v off is. own_is q v ∙ ap (λ b. cond (has_all tables from into topic moved q) [] (cond b (move_told tables from into topic moved q) [])) (at_turned user_order user q ∙ off) ∙ sym (either_way (has_all tables from into topic moved q) []))
       ∙ go (user_at tables user) refl
     where
-      nothing : (b : Bool) → cond b [] [] ≡ [] {A = Event}
-      nothing true = refl
-      nothing false = refl
-
       go : (o : Option User) → user_at tables user ≡ o → made_of (λ v. own_heard (user, v)) o ≡ cond all [] told
       go None is =
           sym (ap₂ (λ (a b : Bool). cond (a && (b && list_all (has_receipt tables user) moved)) [] (told_where tables from into topic moved user a b)) (unseen is from) (unseen is into))
