@@ -3,3 +3,4 @@ pub mod MoveTold
 pub mod MoveChanges
 pub mod KeptMoves
 pub mod MovesTold
+pub mod CommandMoves

@@ -56,11 +56,17 @@ module _ (tables : Tables) (from into : StreamId) (topic : List ℕ) (moved : Li
     has_all = sees_stream tables user from && (sees_stream tables user into && list_all (has_receipt tables user) moved)
 
   -- such users share one part, and each other has parts of its own
+  abbrev pub mover_in : UserId × User → Option ⊤
+  mover_in row = only_if (has_all row.0) (Some (tt {0}))
+
   abbrev pub all_movers : List (UserId × ⊤)
-  all_movers = sift (λ row. only_if (has_all row.0) (Some (tt {0}))) tables.users
+  all_movers = sift mover_in tables.users
+
+  abbrev pub shared_parts : List Part
+  shared_parts = to (Only (keys_of all_movers)) (one_of (λ messages. MessageMoved messages into topic) moved)
 
   abbrev pub own_parts : UserId × User → List Part
   own_parts row = if has_all row.0 then [] else to (Only (row.0 ∷ [])) (move_told row.0)
 
   abbrev pub move_parts : List Part
-  move_parts = to (Only (keys_of all_movers)) (one_of (λ messages. MessageMoved messages into topic) moved) ++ flat_map own_parts tables.users
+  move_parts = shared_parts ++ flat_map own_parts tables.users
