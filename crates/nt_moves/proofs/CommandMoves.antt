@@ -1,10 +1,10 @@
 -- What the command of a move changes in views, its parts tell.
-use Rattle.std.proofs.Common.{◌≡◌, ℕ, Bool, true, false, ◌==◌, ◌&&◌, cond, List, [], bytes_eq, map, filter, fold, nat_le, Option, Some, sym, ap, refl, ◌∙◌, true≢false}
+use Rattle.std.proofs.Common.{◌≡◌, ℕ, Bool, true, false, ◌==◌, cond, List, [], bytes_eq, map, filter, fold, nat_le, Option, Some, sym, ap, refl, ◌∙◌, true≢false}
 use Rattle.std.specs.Option.{option_map_or}
 use Rattle.std.proofs.lemmas.Bool.{and_parts, eqb-true}
 use Rattle.std.specs.Cmp.Lexicographic.{bytes_decides}
 use Rattle.std.proofs.lemmas.Option.{same_Some}
-use Rattle.ev_rows.specs.Rows.{keys_of, row_at}
+use Rattle.ev_rows.specs.Rows.{keys_of}
 use Rattle.ev_base.specs.Orders.{message_cmp, message_order}
 use Rattle.ev_base.specs.declared.ids.UserId.{UserId}
 use Rattle.ev_base.specs.declared.ids.StreamId.{StreamId}

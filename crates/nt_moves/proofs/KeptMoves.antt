@@ -1,12 +1,10 @@
 -- The messages that stay in a view while some of them move.
-use Rattle.std.proofs.Common.{◌≡◌, ℕ, Bool, true, false, not, ◌&&◌, ◌==◌, cond, List, [], ◌∷◌, ◌++◌, map, filter, flat_map, fold, bytes_eq, Option, None, Some, is_some, option_map, option_and_then, sym, ap, refl, ◌∙◌, append-nil, append_assoc}
-use Rattle.std.specs.BTreeMap.{insert_entry, is_at}
+use Rattle.std.proofs.Common.{◌≡◌, ℕ, Bool, true, false, ◌&&◌, cond, List, [], ◌∷◌, ◌++◌, map, fold, Option, None, Some, option_map, sym, ap, refl, ◌∙◌, append-nil, append_assoc}
 use Rattle.std.specs.List.{AllByRecursion, cons_option}
-use Rattle.std.specs.Option.{option_map_or, unwrap_or}
 use Rattle.std.proofs.lemmas.Cmp.{tied_itself}
 use Rattle.std.proofs.lemmas.Option.{same_Some}
 use Rattle.ev_rows.specs.KeyOrder.{KeyOrder}
-use Rattle.ev_rows.specs.Rows.{both_of, keys_of, one_of, only_if, row_at, sift}
+use Rattle.ev_rows.specs.Rows.{both_of, keys_of, one_of, only_if, sift}
 use Rattle.ev_rows.proofs.ChangeLemmas.{both_of-same}
 use Rattle.ev_rows.proofs.RowLemmas.{at_itself}
 use Rattle.ev_base.specs.Orders.{pair_order, stream_order, text_order}
@@ -16,7 +14,7 @@ use Rattle.ev_base.specs.declared.ids.MessageId.{MessageId}
 use Rattle.ev_base.specs.declared.place.Place.TheVariants as place
 use Rattle.ev_types.specs.declared.rows.ShownMessage.{ShownMessage}
 use Rattle.ev_types.specs.declared.event.Event.TheVariants.{MessageMoved}
-use Rattle.ev_types.specs.Changes.{KeptMessage, Moves, StreamPlace, in_stream, move_events, place_cmp, same_place, with_move}
+use Rattle.ev_types.specs.Changes.{Moves, StreamPlace, move_events, place_cmp, same_place, with_move}
 use Rattle.zr_types.specs.declared.posts.Message.{Message}
 use Rattle.zr_types.specs.declared.posts.Receipt.{Receipt}
 use Rattle.zr_types.specs.Tables.{Tables, receipt_of}
@@ -54,14 +52,18 @@ module _ (before : Tables) (user : UserId) (picks : MessageId × Message → Boo
     where
       go : (o : Option ShownMessage) → option_map (λ v. (v, v)) o ≡ Some both → SameText both
       go None is = cc
-      go (Some v) is = let same = same_Some _ _ is in (ap (λ (pair : ShownMessage × ShownMessage). pair.1.content) (sym same) ∙ ap (λ (pair : ShownMessage × ShownMessage). pair.0.content) same,
-        ap (λ (pair : ShownMessage × ShownMessage). pair.1.flags) (sym same) ∙ ap (λ (pair : ShownMessage × ShownMessage). pair.0.flags) same)
+      go (Some v) is = let same = same_Some _ _ is in (
+        ap (λ (pair : ShownMessage × ShownMessage). pair.1.content) (sym same) ∙ ap (λ (pair : ShownMessage × ShownMessage). pair.0.content) same,
+        ap (λ (pair : ShownMessage × ShownMessage). pair.1.flags) (sym same) ∙ ap (λ (pair : ShownMessage × ShownMessage). pair.0.flags) same,
+      )
   same_texts row true true true both is = go (receipt_of before user row.0) is
     where
       go : (o : Option Receipt) → both_of (option_map (shown_message (at_topic from old_topic row.1)) o) (option_map (shown_message (at_topic into topic row.1)) o) ≡ Some both → SameText both
       go None is = cc
-      go (Some receipt) is = let same = same_Some _ _ is in (ap (λ (pair : ShownMessage × ShownMessage). pair.1.content) (sym same) ∙ ap (λ (pair : ShownMessage × ShownMessage). pair.0.content) same,
-        ap (λ (pair : ShownMessage × ShownMessage). pair.1.flags) (sym same) ∙ ap (λ (pair : ShownMessage × ShownMessage). pair.0.flags) same)
+      go (Some receipt) is = let same = same_Some _ _ is in (
+        ap (λ (pair : ShownMessage × ShownMessage). pair.1.content) (sym same) ∙ ap (λ (pair : ShownMessage × ShownMessage). pair.0.content) same,
+        ap (λ (pair : ShownMessage × ShownMessage). pair.1.flags) (sym same) ∙ ap (λ (pair : ShownMessage × ShownMessage). pair.0.flags) same,
+      )
   same_texts row true true false both is = none (option_map (shown_message (at_topic from old_topic row.1)) (receipt_of before user row.0)) is
     where
       none : (o : Option ShownMessage) → both_of {Y = ShownMessage} o None ≡ Some both → SameText both

@@ -1,34 +1,24 @@
 -- The rows that a move brings into a view, takes out of it, and changes in it.
-use Rattle.std.proofs.Common.{◌≡◌, ℕ, Bool, true, false, not, ◌&&◌, ◌==◌, cond, List, [], ◌∷◌, ◌++◌, map, filter, flat_map, fold, Option, None, Some, is_some, option_map, option_and_then, sym, ap, ap₂, refl, ◌∙◌, append-nil, append_assoc}
-use Rattle.std.proofs.Math.Bool.{beq}
-use Rattle.std.specs.BTreeMap.{insert_entry, is_at}
+use Rattle.std.proofs.Common.{◌≡◌, ℕ, Bool, true, false, not, ◌&&◌, cond, List, [], ◌∷◌, filter, flat_map, Option, None, Some, option_map, ap, refl, ◌∙◌}
 use Rattle.std.specs.List.{AllByRecursion, cons_option, filter_map}
-use Rattle.std.specs.Option.{option_map_or}
-use Rattle.std.proofs.lemmas.Cmp.{tied_itself}
-use Rattle.std.proofs.lemmas.Option.{same_Some}
-use Rattle.ev_rows.specs.KeyOrder.{KeyOrder}
-use Rattle.ev_rows.specs.Rows.{SortedByKey, both_of, fresh, keys_of, one_of, only_if, row_at, sift}
-use Rattle.ev_rows.proofs.ChangeLemmas.{both_of-same, fresh-same}
+use Rattle.ev_rows.specs.Rows.{SortedByKey, fresh, keys_of, only_if, row_at, sift}
+use Rattle.ev_rows.proofs.ChangeLemmas.{fresh-same}
 use Rattle.ev_rows.proofs.RiseLemmas.{rise_tail}
-use Rattle.ev_rows.proofs.RowLemmas.{at_itself, later_row, only_if-None, row_at_head}
-use Rattle.ev_base.specs.Orders.{message_cmp, message_order, pair_order, stream_order, text_order}
+use Rattle.ev_rows.proofs.RowLemmas.{later_row, only_if-None, row_at_head}
+use Rattle.ev_base.specs.Orders.{message_cmp, message_order}
 use Rattle.ev_base.specs.declared.ids.UserId.{UserId}
 use Rattle.ev_base.specs.declared.ids.StreamId.{StreamId}
 use Rattle.ev_base.specs.declared.ids.MessageId.{MessageId}
 use Rattle.ev_base.specs.declared.kinds.Flag.{Flag}
 use Rattle.ev_base.specs.declared.kinds.Flag.TheVariants as flag
-use Rattle.ev_base.specs.declared.place.Place.{Place}
-use Rattle.ev_base.specs.declared.place.Place.TheVariants as place
 use Rattle.ev_types.specs.declared.rows.ShownMessage.{ShownMessage}
-use Rattle.ev_types.specs.declared.event.Event.{Event}
-use Rattle.ev_types.specs.declared.event.Event.TheVariants.{MessageMoved}
-use Rattle.ev_types.specs.Changes.{KeptMessage, Moves, StreamPlace, edits, flag_event, flag_events, flag_in, move_events, moved_to, place_cmp, same_place, turned, with_move}
+use Rattle.ev_types.specs.Changes.{KeptMessage, edits, flag_event, flag_events, flag_in, turned}
 use Rattle.zr_types.specs.declared.posts.Message.{Message}
 use Rattle.zr_types.specs.declared.posts.Receipt.{Receipt}
 use Rattle.zr_types.specs.Tables.{Tables, message_at, receipt_of}
 use Rattle.zw_views.specs.RowViews.{message_in}
 use Rattle.zw_views.specs.Views.{shown_message}
-use Rattle.nt_rules.proofs.FieldsStay.{place_stays, same_text, unturned}
+use Rattle.nt_rules.proofs.FieldsStay.{same_text, unturned}
 use Rattle.nt_moves.specs.MoveParts.{at_topic, has_receipt, shown_in}
 use Rattle.nt_moves.proofs.MoveTold.{shown_at, shown_with}
 

@@ -1,25 +1,19 @@
 -- What moves is told to each user by what the user sees of it before and afterwards.
-use Rattle.std.proofs.Common.{◌≡◌, ℕ, Bool, true, false, not, ◌&&◌, ◌||◌, cond, List, [], ◌∷◌, ◌++◌, map, filter, flat_map, fold, Option, None, Some, is_some, is_none, option_map, option_and_then, sym, ap, ap₂, subst, refl, ◌∙◌, append-nil, append_assoc}
-use Rattle.std.specs.BTreeMap.{insert_entry, is_at}
-use Rattle.std.specs.List.{cons_option, filter_map}
+use Rattle.std.proofs.Common.{◌≡◌, ℕ, Bool, true, false, not, ◌&&◌, ◌||◌, cond, List, Option, None, Some, is_some, option_map, sym, ap, refl, ◌∙◌}
 use Rattle.std.specs.Option.{option_map_or}
-use Rattle.ev_rows.specs.KeyOrder.{KeyOrder}
-use Rattle.ev_rows.specs.Rows.{SortedByKey, both_of, fresh, gained, kept, keys_of, lost, one_of, only_if, row_at, sift}
-use Rattle.ev_rows.proofs.ChangeLemmas.{both_of-same, fresh-same}
-use Rattle.ev_rows.proofs.RowLemmas.{only_if-None}
-use Rattle.ev_rows.proofs.SiftLemmas.{gained_sifts, kept_sifts, sift_patched}
-use Rattle.ev_base.specs.Orders.{message_cmp, message_order}
+use Rattle.ev_rows.specs.Rows.{only_if, sift}
+use Rattle.ev_rows.proofs.SiftLemmas.{sift_patched}
+use Rattle.ev_base.specs.Orders.{message_order}
 use Rattle.ev_base.specs.declared.ids.UserId.{UserId}
 use Rattle.ev_base.specs.declared.ids.StreamId.{StreamId}
 use Rattle.ev_base.specs.declared.ids.MessageId.{MessageId}
-use Rattle.ev_base.specs.declared.place.Place.{Place}
 use Rattle.ev_base.specs.declared.place.Place.TheVariants as place
 use Rattle.ev_types.specs.declared.rows.ShownMessage.{ShownMessage}
 use Rattle.zr_types.specs.declared.posts.Message.{Message}
 use Rattle.zr_types.specs.declared.posts.Receipt.{Receipt}
 use Rattle.zr_types.specs.Sound.{TablesSorted}
 use Rattle.zr_types.specs.Tables.{Tables, message_at, receipt_of}
-use Rattle.zr_types.specs.Visibility.{has_protected_history, sees_at, sees_message, sees_stream}
+use Rattle.zr_types.specs.Visibility.{has_protected_history, sees_at, sees_stream}
 use Rattle.zw_views.specs.RowViews.{message_in}
 use Rattle.zw_views.specs.Views.{messages, shown_message}
 use Rattle.nt_rules.proofs.Sight.{sift_same}

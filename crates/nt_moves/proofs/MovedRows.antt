@@ -1,14 +1,12 @@
 -- The rows that a test picks, changed one after another, are the rows with the picked ones changed.
-use Rattle.std.proofs.Common.{◌≡◌, Bool, true, false, cond, List, [], ◌∷◌, ◌++◌, map, filter, fold, Ordering, Less, Greater, Option, None, Some, sym, ap, refl, ◌∙◌}
+use Rattle.std.proofs.Common.{◌≡◌, Bool, true, false, cond, List, [], ◌∷◌, map, filter, fold, Ordering, Less, Greater, Option, None, Some, ap, refl, ◌∙◌}
 use Rattle.std.specs.Option.{option_map_or}
-use Rattle.std.specs.Ordering.{match_ordering}
 use Rattle.std.specs.BTreeMap.{insert_entry, is_at}
 use Rattle.std.specs.List.{AllByRecursion}
 use Rattle.std.proofs.lemmas.Cmp.{tied_itself}
 use Rattle.ev_rows.specs.KeyOrder.{KeyOrder}
 use Rattle.ev_rows.specs.Rows.{SortedByKey, keys_of, row_at}
-use Rattle.ev_rows.proofs.RiseLemmas.{above-below, below-above, rise_head, rise_tail}
-use Rattle.ev_rows.proofs.RowLemmas.{at_itself}
+use Rattle.ev_rows.proofs.RiseLemmas.{above-below, rise_head, rise_tail}
 use Rattle.zr_types.specs.Effects.{changed_at}
 
 module _ {K V : Type 0} {cmp : K → K → Ordering} (order : KeyOrder cmp) (picks : K × V → Bool) (change : V → V) where

@@ -1,9 +1,9 @@
 -- The parts of a move tell every user what it changes among the user's messages.
-use Rattle.std.proofs.Common.{◌≡◌, ℕ, Bool, true, false, not, ◌&&◌, cond, List, [], ◌∷◌, ◌++◌, map, filter, flat_map, Option, None, Some, is_some, option_map, option_and_then, sym, ap, ap₂, subst, refl, ◌∙◌, append-nil}
+use Rattle.std.proofs.Common.{◌≡◌, ℕ, Bool, true, false, not, ◌&&◌, cond, List, [], ◌∷◌, ◌++◌, map, filter, flat_map, Option, None, Some, is_some, option_map, option_and_then, sym, ap, ap₂, refl, ◌∙◌, append-nil}
 use Rattle.std.specs.BTreeMap.{is_at}
-use Rattle.std.specs.List.{filter_map, list_all}
-use Rattle.std.proofs.lemmas.Bool.{and_parts, false≢true}
-use Rattle.ev_rows.specs.Rows.{gained, kept, keys_of, lost, made_of, one_of, only_if, row_at, sift}
+use Rattle.std.specs.List.{list_all}
+use Rattle.std.proofs.lemmas.Bool.{and_parts}
+use Rattle.ev_rows.specs.Rows.{gained, kept, keys_of, lost, made_of, one_of, only_if, sift}
 use Rattle.ev_rows.proofs.RowLemmas.{at_itself, at_turned, flat_map_at, row_at-sift}
 use Rattle.ev_rows.proofs.SiftLemmas.{gained_sifts, kept_sifts}
 use Rattle.ev_base.specs.Orders.{message_cmp, message_order, user_cmp, user_order}
@@ -11,7 +11,6 @@ use Rattle.ev_base.specs.declared.ids.UserId.{UserId}
 use Rattle.ev_base.specs.declared.ids.StreamId.{StreamId}
 use Rattle.ev_base.specs.declared.ids.MessageId.{MessageId}
 use Rattle.ev_base.specs.declared.place.Place.TheVariants as place
-use Rattle.ev_types.specs.Audiences.{has_user}
 use Rattle.ev_types.specs.Changes.{arrivals, edits, flag_events, full_message, message_events, move_events, reaction_events, same_place}
 use Rattle.ev_types.specs.declared.event.Event.{Event}
 use Rattle.ev_types.specs.declared.event.Event.TheVariants.{MessageGone, MessageMoved}
@@ -26,8 +25,8 @@ use Rattle.zr_types.specs.Sound.{TablesSorted}
 use Rattle.zr_types.specs.Tables.{Tables, stream_at, user_at}
 use Rattle.zr_types.specs.Visibility.{is_subscribed, sees_by, sees_stream}
 use Rattle.zw_views.specs.Views.{messages, reactions, view_of}
-use Rattle.nt_moves.specs.MoveParts.{all_movers, at_topic, has_all, has_receipt, move_parts, move_told, own_parts, received, shown_in, told_where}
-use Rattle.nt_moves.proofs.KeptMoves.{both_shown, movers, moves_are, texts_stay}
+use Rattle.nt_moves.specs.MoveParts.{all_movers, at_topic, has_all, has_receipt, move_parts, move_told, own_parts, told_where}
+use Rattle.nt_moves.proofs.KeptMoves.{both_shown, moves_are, texts_stay}
 use Rattle.nt_moves.proofs.MoveChanges.{looked_up, no_edit, no_turns, numbers_are, picked, rows_come, sift_choice}
 use Rattle.nt_moves.proofs.MoveTold.{AllStandAt, after, after_is, after_rise, before_is, shown_with}
 

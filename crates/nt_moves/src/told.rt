@@ -51,11 +51,15 @@ fn push_moved(
     let messages = received(*events.allocator(), realm, moves.moved, user)?;
     let stream = moves.into;
     let topic = moves.topic.clone()?;
-    push_one_of(events, messages, |messages| Event::MessageMoved {
+    push_one_of(
+        events,
         messages,
-        stream,
-        topic,
-    })
+        |messages| Event::MessageMoved {
+            messages,
+            stream,
+            topic,
+        },
+    )
 }
 
 fn push_gone(
@@ -81,13 +85,9 @@ fn received(
     ensures { IfOk result (λ messages. messages.items
         ≡ filter (has_receipt realm.now.state.tables user) moved.now) }
 {
-    let mut messages = Vec::new(alloc);
-    for message in moved {
-        if realm.has_receipt(user, *message) {
-            messages.push(*message)?;
-        }
-    }
-    Ok(messages)
+    let messages = moved.iter().copied();
+    let own = messages.filter(|message| realm.has_receipt(user, *message));
+    Ok(own.collect(alloc)?)
 }
 
 // They as the user sees them at their new place.
