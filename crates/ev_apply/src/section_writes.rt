@@ -1,6 +1,6 @@
 //! The writes to one section of a state, which is present or not.
 
-ghost use Rattle.std.specs.Prelude.{◌≡◌, OnOk, option_map};
+ghost use Rattle.std.specs.Prelude.{◌≡◌, IsOk, None, OnOk, option_map};
 ghost use Rattle.ev_types.specs.Sections.{rows_in};
 ghost use Rattle.ev_types.specs.Writes.{after_writes};
 ghost use Rattle.ev_apply.specs.Lasts.{CanApply, DoesWrites};
@@ -12,10 +12,11 @@ use crate::rows::{apply_writes, drop_covered};
 use crate::sorted_writes::SortedWrites;
 use ev_base::{Keyed, NoMemory};
 
-/// Makes room for this many rows.
+/// Makes room for this many rows, where the section is present.
 pub fn reserve_in<K: Ord, V>(section: &mut Option<Keyed<K, V>>, puts: usize) -> Result<(), NoMemory>
     ensures rows { rows_in section.new ≡ rows_in section.old }
     ensures room { OnOk result (HasRoom puts section.new) }
+    ensures absent { rows_in section.old ≡ None → IsOk result }
 {
     match section {
         Some(rows) => rows.reserve(puts),
