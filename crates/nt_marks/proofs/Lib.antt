@@ -1,0 +1,4 @@
+pub mod FlagCells
+pub mod OneFlag
+pub mod FlagsTold
+pub mod ReactionTold

@@ -1,0 +1,2 @@
+//! The notices of changes of flags and reactions, made from the change and the tables before it.
+#![tactic(auto)]
