@@ -6,7 +6,7 @@ use Rattle.std.specs.BTreeMap.{is_at}
 use Rattle.std.specs.List.{cons_option, list_any}
 use Rattle.std.specs.List.Sorted.{IsStrictlySortedBy}
 use Rattle.std.proofs.lemmas.Bool.{false≢true}
-use Rattle.ev_rows.specs.Rows.{SortedByKey, keys_of, one_of, only_if, row_at, sift}
+use Rattle.ev_rows.specs.Rows.{SortedByKey, keys_of, one_of, one_row, only_if, row_at, sift}
 use Rattle.ev_rows.proofs.RiseLemmas.{rise-filter, rise-nil, rise-sift}
 use Rattle.ev_rows.proofs.RowLemmas.{at_itself, row_at-filter, row_at-sift, same_rows}
 use Rattle.ev_base.specs.Orders.{message_cmp, message_order, reaction_cmp, user_cmp}
@@ -83,7 +83,7 @@ module _ (tables : Tables) where
   placed_is_sift (key ∷ keys) = go (message_at tables key) (placed_is_sift keys)
     where
       go : (o : Option Message) → placed tables keys ≡ places keys
-          → cons_option (option_map (λ row. (key, row.place)) o) (placed tables keys) ≡ cons_option (option_map (λ w. (key, w)) (option_map (λ (m : Message). m.place) o)) (places keys)
+          → one_row key (option_map (λ (m : Message). m.place) o) ++ placed tables keys ≡ cons_option (option_map (λ w. (key, w)) (option_map (λ (m : Message). m.place) o)) (places keys)
       go None further = further
       go (Some row) further = ap (λ l. (key, row.place) ∷ l) further
 
@@ -97,6 +97,14 @@ module _ (tables : Tables) where
           → keys_of (cons_option (option_map (λ w. (key, w)) (option_map (λ (m : Message). m.place) o)) (places keys)) ≡ key ∷ keys
       go None is further = absurd (false≢true is)
       go (Some row) is further = ap (λ l. key ∷ l) further
+
+-- the details are those of the messages with their places
+details_same : (tables : Tables) (rows : List KeptMessage) (keys : List MessageId) → map (λ (row : KeptMessage). (row.0, row.1.1.place)) rows ≡ placed tables keys
+    → (kind : Flag) (sign : Bool) → details_of kind sign rows ≡ details_in tables kind sign keys
+details_same tables rows keys same flag.Read true = refl
+details_same tables rows keys same flag.Read false = same
+details_same tables rows keys same flag.Starred sign = refl
+details_same tables rows keys same flag.Collapsed sign = refl
 
 -- the user sees the message, and the flag of the user's receipt isn't so already
 abbrev pub IsTurned : Tables → UserId → Flag → Bool → MessageId → Type 0
@@ -157,9 +165,9 @@ module _ (tables : Tables) (rise : TablesSorted tables) (hearer : UserId) (flag 
       none None = refl
       none (Some shown) = ap (λ b. option_map (λ (row : ShownMessage). row.place) (only_if b (Some shown))) (test_off q shown off)
   same_cell q true on =
-      let (receipt, receipt_is, sees, differs) = each q on in
-      (λ i. tested q (option_and_then (λ row. only_if (sees i) (option_map (shown_message row) (receipt_is i))) (message_at tables q)))
-      ∙ there receipt differs (message_at tables q)
+      let turned_there = each q on in
+      (λ i. tested q (option_and_then (λ row. only_if (turned_there.1.1 i) (option_map (shown_message row) (turned_there.1.0 i))) (message_at tables q)))
+      ∙ there turned_there.0 turned_there.1.2 (message_at tables q)
     where
       there : (receipt : Receipt) → beq (receipts.flag_in flag receipt) add ≡ false → (o : Option Message)
           → tested q (option_and_then (λ row. Some (shown_message row receipt)) o) ≡ option_map (λ (m : Message). m.place) o
@@ -178,7 +186,7 @@ module _ (tables : Tables) (rise : TablesSorted tables) (hearer : UserId) (flag 
       ∙ sym (row_at-sift message_order (place_in tables) (rows_for keys) q keyed_rise ∙ ap (option_and_then (λ (mark : Unit {0}). place_in tables (q, mark))) (row_at-rows_for keys q) ∙ ap (named q) (marked_is q)))
 
   is_there : (q : MessageId) → list_any (is_at (message_cmp q)) keys ≡ true → is_some (message_at tables q) ≡ true
-  is_there q is = let (receipt, receipt_is, sees, differs) = each q (sym (marked_is q) ∙ is) in go (message_at tables q) sees
+  is_there q is = go (message_at tables q) (each q (sym (marked_is q) ∙ is)).1.1
     where
       go : (o : Option Message) → option_map_or (λ row. sees_at tables hearer q row.sender row.place) o false ≡ true → is_some o ≡ true
       go None sees = absurd (false≢true sees)
@@ -202,17 +210,11 @@ module _ (tables : Tables) (rise : TablesSorted tables) (hearer : UserId) (flag 
       go [] = refl
       go (x ∷ xs) = ap (λ l. (x.0, x.1.place) ∷ l) (go xs)
 
-  details_same : (kind : Flag) (sign : Bool) → details_of kind sign (filter (turned flag add) (with_new new rows)) ≡ details_in tables kind sign keys
-  details_same flag.Read true = refl
-  details_same flag.Read false = details_are
-  details_same flag.Starred sign = refl
-  details_same flag.Collapsed sign = refl
-
   -- so the event of the flag tells of them
   pub flag_tells : flag_event (with_new new rows) flag add ≡ one_of (flags_turned tables flag add) keys
   flag_tells =
       one_of_same (flag_change flag add) (flags_turned tables flag add) (filter (turned flag add) (with_new new rows)) keys keys_are
-      (λ i. Flags (record { flag = flag; add = add; messages = keys_are i; details = details_same flag add i }))
+      (λ i. Flags (record { flag = flag; add = add; messages = keys_are i; details = details_same tables (filter (turned flag add) (with_new new rows)) keys details_are flag add i }))
 
 module _ (tables : Tables) (rise : TablesSorted tables) (actor : UserId) (flag : Flag) (add : Bool) (keys : List MessageId) (keys_rise : IsStrictlySortedBy message_cmp keys) (hearer : UserId)
     (each : (q : MessageId) → is_marked tables rise actor flag add keys hearer q ≡ true → IsTurned tables hearer flag add q) where

@@ -83,4 +83,4 @@ one_flag flag.Collapsed false marked rows =
       other_kind flag.Collapsed false marked rows flag.Starred true (λ flags. refl),
       other_kind flag.Collapsed false marked rows flag.Starred false (λ flags. refl),
       other_sign flag.Collapsed false marked rows flag.Collapsed true (λ flags. refl),
-    ) (simp append-nil)
+    ) refl

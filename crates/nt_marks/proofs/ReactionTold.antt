@@ -128,8 +128,10 @@ module _ (tables : Tables) (rise : TablesSorted tables) (changed : Reactions) (c
       ∙ (λ i. no_moves same (λ row. refl) rows i ++ no_edits same (λ row. refl) rows i ++ no_flags same (λ row. refl) rows i ++ reaction_turns i)
 
   -- the readers are told of it
-  pub reaction_told : (event : Event) → turn was is ≡ event ∷ [] → heard_of hearer (reaction_parts tables message event) ≡ changes_between (view_of tables hearer) (view_of after hearer)
-  reaction_told event tells =
+  pub reaction_told : (old new : Option (Unit {0})) → was ≡ old → is ≡ new → (event : Event) → turn old new ≡ event ∷ []
+      → heard_of hearer (reaction_parts tables message event) ≡ changes_between (view_of tables hearer) (view_of after hearer)
+  reaction_told old new was_so is_so event tells =
       heard_to hearer (Only (keys_of (readers tables message))) (event ∷ [])
       ∙ (λ i. cond (has_readers hearer tables message i) (sym tells i) [])
+      ∙ (λ i. cond has (turn (sym was_so i) (sym is_so i)) [])
       ∙ sym reaction_changes

@@ -1,14 +1,14 @@
 -- The parts of the notice of a change of flags or reactions.
-use Rattle.std.specs.Prelude.{Bool, true, false, List, [], ◌∷◌, option_map}
-use Rattle.std.specs.List.{filter_map}
+use Rattle.std.specs.Prelude.{ℕ, Bool, true, false, List, [], ◌∷◌, flat_map, option_map}
 use Rattle.ev_base.specs.declared.ids.UserId.{UserId}
 use Rattle.ev_base.specs.declared.ids.MessageId.{MessageId}
 use Rattle.ev_base.specs.declared.kinds.Flag.{Flag}
 use Rattle.ev_base.specs.declared.kinds.Flag.TheVariants as flag
 use Rattle.ev_base.specs.declared.place.Place.{Place}
-use Rattle.ev_rows.specs.Rows.{keys_of, one_of}
+use Rattle.ev_rows.specs.Rows.{keys_of, one_of, one_row}
 use Rattle.ev_types.specs.declared.event.Event.{Event}
 use Rattle.ev_types.specs.declared.event.Event.TheVariants as event
+use Rattle.ev_types.specs.declared.event.FlagChange.{FlagChange}
 use Rattle.ev_types.specs.declared.notice.Audience.TheVariants.{Only}
 use Rattle.ev_types.specs.declared.notice.Part.{Part}
 use Rattle.nt_rules.specs.Parts.{readers, to}
@@ -18,9 +18,12 @@ use Rattle.zr_types.specs.declared.command.MarkCommand.{MarkCommand}
 use Rattle.zr_types.specs.declared.command.MarkCommand.TheVariants as of_marks
 
 module _ (tables : Tables) where
-  -- messages with their places
+  -- a message with its place, and messages with theirs
+  abbrev pub with_place : MessageId → List (MessageId × Place)
+  with_place message = one_row message (option_map (λ row. row.place) (message_at tables message))
+
   abbrev pub placed : List MessageId → List (MessageId × Place)
-  placed messages = filter_map (λ message. option_map (λ row. (message, row.place)) (message_at tables message)) messages
+  placed messages = flat_map with_place messages
 
   -- the places of the messages that are unread again
   abbrev pub details_in : Flag → Bool → List MessageId → List (MessageId × Place)
@@ -28,9 +31,11 @@ module _ (tables : Tables) where
   details_in flag add messages = []
 
   -- a flag was added to these messages, or removed from them
+  abbrev pub flag_change_of : Flag → Bool → List MessageId → FlagChange
+  flag_change_of flag add messages = record { flag = flag; add = add; messages = messages; details = details_in flag add messages }
+
   abbrev pub flags_turned : Flag → Bool → List MessageId → Event
-  flags_turned flag add messages =
-      event.Flags (record { flag = flag; add = add; messages = messages; details = details_in flag add messages })
+  flags_turned flag add messages = event.Flags (flag_change_of flag add messages)
 
   -- the actor alone is told of the actor's flags
   abbrev pub flag_parts : UserId → Flag → Bool → List MessageId → List Part
@@ -45,3 +50,9 @@ module _ (tables : Tables) where
   mark_parts actor (of_marks.Flags add flag messages) = flag_parts actor flag add (differing tables actor flag add messages)
   mark_parts actor (of_marks.ReactionAdd message emoji) = reaction_parts message (event.ReactionAdd message actor emoji)
   mark_parts actor (of_marks.ReactionRemove message emoji) = reaction_parts message (event.ReactionRemove message actor emoji)
+
+-- the texts that a command of flags and reactions stores
+abbrev pub texts_in : MarkCommand → List (List ℕ)
+texts_in (of_marks.Flags add flag messages) = []
+texts_in (of_marks.ReactionAdd message emoji) = emoji ∷ []
+texts_in (of_marks.ReactionRemove message emoji) = emoji ∷ []
