@@ -1,5 +1,5 @@
 -- What a user hears of the parts of a command of flags or reactions is what it changes in the user's view.
-use Rattle.std.proofs.Common.{◌≡◌, Bool, true, false, not, ◌&&◌, ◌||◌, cond, List, [], ◌∷◌, Option, None, Some, is_none, is_some, sym, ap, refl, ◌∙◌, subst}
+use Rattle.std.proofs.Common.{◌≡◌, Bool, true, false, not, ◌&&◌, ◌||◌, cond, List, [], ◌∷◌, map, Option, None, Some, is_none, is_some, sym, ap, refl, ◌∙◌, subst}
 use Rattle.std.proofs.Math.Bool.{beq}
 use Rattle.std.specs.Option.{option_map_or}
 use Rattle.std.specs.BTreeMap.{insert_entry, is_at}
@@ -18,12 +18,14 @@ use Rattle.ev_types.specs.Changes.{changes_between}
 use Rattle.ev_types.specs.Sections.{ReactionKey}
 use Rattle.ev_types.specs.declared.event.Event.TheVariants as event
 use Rattle.cmd_rules.proofs.DistinctLemmas.{list_any-distinct, rise-distinct}
-use Rattle.nt_marks.specs.MarkParts.{mark_parts}
+use Rattle.nt_marks.specs.MarkParts.{flag_parts, mark_parts}
 use Rattle.nt_marks.proofs.FlagCells.{is_marked}
 use Rattle.nt_marks.proofs.FlagsTold.{IsTurned, flags_told}
 use Rattle.nt_marks.proofs.ReactionTold.{reaction_told}
 use Rattle.nt_rules.specs.Parts.{heard_of}
 use Rattle.zr_realm.proofs.Accepted.{is_accepted, none_holds}
+use Rattle.zr_realm.specs.Parts.{messages_of}
+use Rattle.zr_types.specs.Checks.{ids_of}
 use Rattle.zr_types.specs.Commands.{differing, differs, distinct_messages, flag_in}
 use Rattle.zr_types.specs.Effects.{mark_effect, without}
 use Rattle.zr_types.specs.Refusals.{own_reasons, refusal}
@@ -106,12 +108,18 @@ is_there : (o : Option (Unit {0})) → is_none o ≡ false → o ≡ Some tt
 is_there None is = absurd (false≢true (sym is))
 is_there (Some mark) is = refl
 
+-- messages by their numbers
+renumbered : (messages : List MessageId) → messages_of (map (λ message. message.0) messages) ≡ messages
+renumbered [] = refl
+renumbered (message ∷ messages) = ap (λ l. message ∷ l) (renumbered messages)
+
 pub marks_told : (state : RealmState) → TablesSorted state.tables → (actor : UserId) (command : MarkCommand) → refusal state actor (Marks command) ≡ None → (hearer : UserId)
-    → heard_of hearer (mark_parts state.tables actor command) ≡ changes_between (view_of state.tables hearer) (view_of (mark_effect actor command state.tables) hearer)
+    → heard_of hearer (mark_parts state.tables actor (messages_of (ids_of state.tables actor (Marks command))) command) ≡ changes_between (view_of state.tables hearer) (view_of (mark_effect actor command state.tables) hearer)
 marks_told state rise actor (of_marks.Flags add flag messages) accepted hearer =
     let own = none_holds (own_reasons state actor (Marks (of_marks.Flags add flag messages))) (is_accepted state actor (Marks (of_marks.Flags add flag messages)) accepted).own in
     let all = not-false (list_all (λ message. sees_message state.tables actor message && is_some (receipt_of state.tables actor message)) messages) (own 0) in
-    flags_told state.tables rise actor flag add (differing state.tables actor flag add messages)
+    ap (λ turned. heard_of hearer (flag_parts state.tables actor flag add turned)) (renumbered (differing state.tables actor flag add messages))
+    ∙ flags_told state.tables rise actor flag add (differing state.tables actor flag add messages)
     (IsStrictlySortedBy-filter message_cmp (differs state.tables actor flag add) (distinct_messages messages) (rise-distinct message_order messages))
     hearer (marked_are_turned state.tables actor flag add messages all rise hearer)
 marks_told state rise actor (of_marks.ReactionAdd message emoji) accepted hearer =

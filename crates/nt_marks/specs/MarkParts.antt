@@ -12,7 +12,6 @@ use Rattle.ev_types.specs.declared.event.FlagChange.{FlagChange}
 use Rattle.ev_types.specs.declared.notice.Audience.TheVariants.{Only}
 use Rattle.ev_types.specs.declared.notice.Part.{Part}
 use Rattle.nt_rules.specs.Parts.{readers, to}
-use Rattle.zr_types.specs.Commands.{differing}
 use Rattle.zr_types.specs.Tables.{Tables, message_at}
 use Rattle.zr_types.specs.declared.command.MarkCommand.{MarkCommand}
 use Rattle.zr_types.specs.declared.command.MarkCommand.TheVariants as of_marks
@@ -45,11 +44,11 @@ module _ (tables : Tables) where
   abbrev pub reaction_parts : MessageId → Event → List Part
   reaction_parts message event = to (Only (keys_of (readers tables message))) (event ∷ [])
 
-  -- what is told of a command of flags and reactions
-  abbrev pub mark_parts : UserId → MarkCommand → List Part
-  mark_parts actor (of_marks.Flags add flag messages) = flag_parts actor flag add (differing tables actor flag add messages)
-  mark_parts actor (of_marks.ReactionAdd message emoji) = reaction_parts message (event.ReactionAdd message actor emoji)
-  mark_parts actor (of_marks.ReactionRemove message emoji) = reaction_parts message (event.ReactionRemove message actor emoji)
+  -- what is told of a command of flags and reactions that turns a flag of these messages
+  abbrev pub mark_parts : UserId → List MessageId → MarkCommand → List Part
+  mark_parts actor turned (of_marks.Flags add flag messages) = flag_parts actor flag add turned
+  mark_parts actor turned (of_marks.ReactionAdd message emoji) = reaction_parts message (event.ReactionAdd message actor emoji)
+  mark_parts actor turned (of_marks.ReactionRemove message emoji) = reaction_parts message (event.ReactionRemove message actor emoji)
 
 -- the texts that a command of flags and reactions stores
 abbrev pub texts_in : MarkCommand → List (List ℕ)

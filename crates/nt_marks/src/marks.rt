@@ -5,13 +5,14 @@ ghost use Rattle.ev_base.specs.declared.ids.UserId.{UserId};
 ghost use Rattle.ev_types.specs.Audiences.{events_for};
 ghost use Rattle.ev_types.specs.Changes.{changes_between};
 ghost use Rattle.ev_types.specs.declared.event.Event.{Event};
-ghost use Rattle.zr_types.specs.Checks.{IsChangeOf, WasChecked, ids_of};
+ghost use Rattle.zr_realm.specs.Parts.{messages_of};
+ghost use Rattle.zr_types.specs.Checks.{IsChangeOf, WasChecked};
 ghost use Rattle.zr_types.specs.Effects.{after_command};
 ghost use Rattle.zr_types.specs.declared.command.Command.{Command};
 ghost use Rattle.zw_traces.specs.RealmTrace.{deactivated_by};
 ghost use Rattle.zw_views.specs.Views.{view_of};
 ghost use Rattle.nt_rules.specs.Kinds.{is_of_marks};
-ghost use Rattle.nt_marks.specs.MarkParts.{mark_parts, texts_in};
+ghost use Rattle.nt_marks.specs.MarkParts.{mark_parts, reaction_parts, texts_in};
 
 use crate::flags::push_flags;
 use ev_base::{Listed, MessageId, NoMemory, Text, UserId};
@@ -55,10 +56,9 @@ fn mark_parts(
     texts: &[Text],
     numbers: &[u32],
 ) -> Result<Vec<Part>, NoMemory>
-    requires texts { texts.now ≡ texts_in command.now }
-    requires ids { numbers.now ≡ ids_of realm.now.state.tables actor (Command.Marks command.now) }
-    ensures { IfOk result
-        (λ parts. parts.items ≡ mark_parts realm.now.state.tables actor command.now) }
+    requires { texts.now ≡ texts_in command.now }
+    ensures { IfOk result (λ parts. parts.items
+        ≡ mark_parts realm.now.state.tables actor (messages_of numbers.now) command.now) }
 {
     let mut parts = Vec::new(alloc);
     match command {
@@ -66,27 +66,39 @@ fn mark_parts(
             push_flags(realm, actor, *flag, *add, numbers, &mut parts)?
         }
         MarkCommand::ReactionAdd { message, .. } => {
-            let event = reaction_added(*message, actor, &texts[0])?;
-            push_to_readers(realm, *message, event, &mut parts)?
+            push_reaction_added(realm, actor, *message, &texts[0], &mut parts)?
         }
         MarkCommand::ReactionRemove { message, .. } => {
-            let event = reaction_removed(*message, actor, &texts[0])?;
-            push_to_readers(realm, *message, event, &mut parts)?
+            push_reaction_removed(realm, actor, *message, &texts[0], &mut parts)?
         }
     }
     Ok(parts)
 }
 
-fn reaction_added(message: MessageId, user: UserId, emoji: &Text) -> Result<Event, NoMemory>
-    ensures { IfOk result (λ event. event ≡ Event.ReactionAdd message user emoji.now) }
+fn push_reaction_added(
+    realm: &Realm,
+    user: UserId,
+    message: MessageId,
+    emoji: &Text,
+    parts: &mut Vec<Part>,
+) -> Result<(), NoMemory>
+    ensures { IfOk result (λ _. parts.new.items ≡ parts.old.items ++ reaction_parts
+        realm.now.state.tables message (Event.ReactionAdd message user emoji.now)) }
 {
     let emoji = emoji.clone()?;
-    Ok(Event::ReactionAdd { message, user, emoji })
+    push_to_readers(realm, message, Event::ReactionAdd { message, user, emoji }, parts)
 }
 
-fn reaction_removed(message: MessageId, user: UserId, emoji: &Text) -> Result<Event, NoMemory>
-    ensures { IfOk result (λ event. event ≡ Event.ReactionRemove message user emoji.now) }
+fn push_reaction_removed(
+    realm: &Realm,
+    user: UserId,
+    message: MessageId,
+    emoji: &Text,
+    parts: &mut Vec<Part>,
+) -> Result<(), NoMemory>
+    ensures { IfOk result (λ _. parts.new.items ≡ parts.old.items ++ reaction_parts
+        realm.now.state.tables message (Event.ReactionRemove message user emoji.now)) }
 {
     let emoji = emoji.clone()?;
-    Ok(Event::ReactionRemove { message, user, emoji })
+    push_to_readers(realm, message, Event::ReactionRemove { message, user, emoji }, parts)
 }
