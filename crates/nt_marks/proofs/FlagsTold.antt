@@ -238,7 +238,7 @@ module _ (tables : Tables) (rise : TablesSorted tables) (actor : UserId) (flag :
       messages_alone tables rise hearer after refl refl refl refl
       ∙ messages_written (view_of tables hearer) (view_of after hearer) new (rise-sift message_cmp (message_in tables hearer) tables.messages rise.messages) (messages_marked_after tables rise actor flag add keys hearer)
       ∙ (λ i. no_moves new (λ row. refl) shown i ++ no_edits new (λ row. refl) shown i ++ one_flag flag add marks shown i
-          ++ reactions_stay (view_of tables hearer) (view_of after hearer) (rise-sift reaction_cmp (reaction_in tables hearer) tables.reactions rise.reactions) (reactions_after tables rise actor flag add keys hearer) i)
+      ++ reactions_stay (view_of tables hearer) (view_of after hearer) (rise-sift reaction_cmp (reaction_in tables hearer) tables.reactions rise.reactions) (reactions_after tables rise actor flag add keys hearer) i)
       ∙ append-nil (flag_event (with_new new shown) flag add)
       ∙ flag_tells tables rise hearer flag add (wanted tables rise actor flag add keys hearer) wanted_rise marks (λ q. refl) each
 

@@ -55,7 +55,12 @@ fn flag_change(
 fn messages_of(alloc: Global, numbers: &[u32]) -> Result<Vec<MessageId>, NoMemory>
     ensures { IfOk result (λ messages. messages.items ≡ messages_of numbers.now) }
 {
-    Ok(numbers.iter().map(|number| MessageId(*number)).collect(alloc)?)
+    Ok(
+        numbers
+            .iter()
+            .map(|number| MessageId(*number))
+            .collect(alloc)?,
+    )
 }
 
 // The places of messages that are unread again.

@@ -86,7 +86,16 @@ fn push_reaction_added(
         realm.now.state.tables message (Event.ReactionAdd message user emoji.now)) }
 {
     let emoji = emoji.clone()?;
-    push_to_readers(realm, message, Event::ReactionAdd { message, user, emoji }, parts)
+    push_to_readers(
+        realm,
+        message,
+        Event::ReactionAdd {
+            message,
+            user,
+            emoji,
+        },
+        parts,
+    )
 }
 
 fn push_reaction_removed(
@@ -100,5 +109,14 @@ fn push_reaction_removed(
         realm.now.state.tables message (Event.ReactionRemove message user emoji.now)) }
 {
     let emoji = emoji.clone()?;
-    push_to_readers(realm, message, Event::ReactionRemove { message, user, emoji }, parts)
+    push_to_readers(
+        realm,
+        message,
+        Event::ReactionRemove {
+            message,
+            user,
+            emoji,
+        },
+        parts,
+    )
 }

@@ -50,7 +50,11 @@ fn readers_among(
         (λ user. sees_message realm.now.state.tables user message) (map (λ row. row.0.1) receipts.now)) }
 {
     let users = receipts.iter().map(|row| row.0.1);
-    Ok(users.filter(|user| realm.sees_message(*user, message)).collect(alloc)?)
+    Ok(
+        users
+            .filter(|user| realm.sees_message(*user, message))
+            .collect(alloc)?,
+    )
 }
 
 /// The receipts for a message. They stand side by side, since receipts rise by message first.
