@@ -1,0 +1,69 @@
+//! The users who have a message.
+
+ghost use Rattle.std.specs.Prelude.{◌≡◌, [], ◌∷◌, ◌++◌, filter, map, IfOk};
+ghost use Rattle.std.specs.BTreeMap.{is_at};
+ghost use Rattle.ev_rows.specs.Rows.{SortedByKey, keys_of};
+ghost use Rattle.ev_base.specs.Orders.{message_cmp, message_user_cmp};
+ghost use Rattle.ev_types.specs.declared.notice.Audience.{Audience};
+ghost use Rattle.nt_rules.specs.Parts.{readers, to};
+ghost use Rattle.zr_types.specs.Visibility.{sees_message};
+
+use ev_base::{Listed, MessageId, NoMemory, UserId};
+use ev_types::{Audience, Event, Part};
+use std::alloc::Global;
+use zr_realm::Realm;
+use zr_types::Receipt;
+
+type ReceiptRow = ((MessageId, UserId), Receipt);
+
+/// Adds a part that those hear who see a message and have a receipt for it.
+pub fn push_to_readers(
+    realm: &Realm,
+    message: MessageId,
+    event: Event,
+    parts: &mut Vec<Part>,
+) -> Result<(), NoMemory>
+    ensures { IfOk result (λ _. parts.new.items ≡ parts.old.items
+        ++ to (Audience.Only (keys_of (readers realm.now.state.tables message))) (event ∷ [])) }
+{
+    let users = readers(*parts.allocator(), realm, message)?;
+    let audience = Audience::Only(Listed::from_vec(users));
+    Ok(parts.push(Part { audience, event })?)
+}
+
+/// The users who see a message and have a receipt for it.
+pub fn readers(alloc: Global, realm: &Realm, message: MessageId) -> Result<Vec<UserId>, NoMemory>
+    ensures { IfOk result
+        (λ users. users.items ≡ keys_of (readers realm.now.state.tables message)) }
+{
+    let receipts = receipts_for(realm.posts().receipts_rows(), message);
+    readers_among(alloc, realm, message, receipts)
+}
+
+fn readers_among(
+    alloc: Global,
+    realm: &Realm,
+    message: MessageId,
+    receipts: &[ReceiptRow],
+) -> Result<Vec<UserId>, NoMemory>
+    ensures { IfOk result (λ users. users.items ≡ filter
+        (λ user. sees_message realm.now.state.tables user message) (map (λ row. row.0.1) receipts.now)) }
+{
+    let users = receipts.iter().map(|row| row.0.1);
+    Ok(
+        users
+            .filter(|user| realm.sees_message(*user, message))
+            .collect(alloc)?,
+    )
+}
+
+/// The receipts for a message. They stand side by side, since receipts rise by message first.
+pub fn receipts_for(receipts: &[ReceiptRow], message: MessageId) -> &[ReceiptRow]
+    requires { SortedByKey message_user_cmp receipts.now }
+    ensures { result.now ≡ filter (λ row. is_at (message_cmp message) row.0.0) receipts.now }
+{
+    let from = receipts.partition_point(|row| row.0.0.0 < message.0);
+    let rest = &receipts[from..];
+    let count = rest.partition_point(|row| row.0.0.0 <= message.0);
+    &rest[..count]
+}
