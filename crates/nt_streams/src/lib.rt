@@ -1,0 +1,6 @@
+//! The notices of changes of streams and subscriptions.
+#![tactic(auto)]
+
+mod turn;
+
+pub use turn::Turn;
