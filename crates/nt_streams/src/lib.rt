@@ -1,6 +1,7 @@
 //! The notices of changes of streams and subscriptions.
 #![tactic(auto)]
 
+pub mod laws;
 mod turn;
 
 pub use turn::Turn;
