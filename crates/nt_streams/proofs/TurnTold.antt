@@ -59,7 +59,7 @@ and_cond false b xs = refl
 
 module _ (tables : Tables) (turn : Turn) where
   -- of a subscription that stays nothing is told
-  same_own : (own : Option Subscription) → own_change tables turn own own ≡ []
+  same_own : (own : Option Subscription) → own_change turn own own ≡ []
   same_own None = refl
   same_own (Some own) = subscription_stays turn.stream (shown_subscription own)
 
@@ -74,13 +74,13 @@ module _ (tables : Tables) (turn : Turn) where
   went old new = one_of (PeerRemove turn.stream) (keys_of (one_row turn.user (fresh new old)))
 
   peer_cases : (o : Option User) (x y : Option Subscription)
-      → came (peer_cell x o) (peer_cell y o) ++ went (peer_cell x o) (peer_cell y o) ≡ cond (option_map_or (λ (row : User). row.is_active) o false) (peer_change tables turn x y) []
+      → came (peer_cell x o) (peer_cell y o) ++ went (peer_cell x o) (peer_cell y o) ≡ cond (option_map_or (λ (row : User). row.is_active) o false) (peer_change turn x y) []
   peer_cases None x y = refl
   peer_cases (Some row) x y = go row.is_active x y
     where
       go : (active : Bool) (x y : Option Subscription)
           → came (only_if (active && is_some x) (Some (tt {0}))) (only_if (active && is_some y) (Some (tt {0}))) ++ went (only_if (active && is_some x) (Some (tt {0}))) (only_if (active && is_some y) (Some (tt {0})))
-          ≡ cond active (peer_change tables turn x y) []
+          ≡ cond active (peer_change turn x y) []
       go false x y = refl
       go true None None = refl
       go true None (Some new) = refl
@@ -102,7 +102,7 @@ module _ (tables : Tables) (turn : Turn) where
   sub_lost None = refl
   sub_lost (Some own) = refl
 
-  sub_kept : (x y : Option Subscription) → subscription_at_key turn.stream (option_map shown_subscription x) (option_map shown_subscription y) ≡ own_change tables turn x y
+  sub_kept : (x y : Option Subscription) → subscription_at_key turn.stream (option_map shown_subscription x) (option_map shown_subscription y) ≡ own_change turn x y
   sub_kept None None = refl
   sub_kept None (Some new) = refl
   sub_kept (Some old) None = refl
@@ -126,7 +126,7 @@ module _ (tables : Tables) (turn : Turn) where
     abbrev heard_by : Bool → Bool → Bool → Option Stream → List Event → List Event → List Event
     heard_by f k l new fields joined =
         (cond f (told_of_stream new) [] ++ cond f (told_of_own new_own) [] ++ cond f told_of_peers [] ++ cond f told_of_messages [])
-        ++ (cond k fields [] ++ cond k (own_change tables turn old_own new_own) [] ++ cond k joined [])
+        ++ (cond k fields [] ++ cond k (own_change turn old_own new_own) [] ++ cond k joined [])
         ++ (cond l (StreamDelete (turn.stream ∷ []) ∷ []) [] ++ cond l (cond (is_some old_own) (SubRemove (turn.stream ∷ []) ∷ []) []) [] ++ cond l (one_of MessageGone (keys_of there)) [])
 
     abbrev fields_of : Option Stream → Option Stream → List Event
@@ -232,15 +232,15 @@ module _ (tables : Tables) (rise : TablesSorted tables) (turn : Turn)
   comers = one_of (PeerAdd turn.stream) (keys_of (peers_after tables turn))
 
   finder_heard : heard_of hearer (finder_parts tables turn)
-      ≡ cond (finds tables turn hearer) (found tables turn) [] ++ cond (finds tables turn hearer) (found_subscription tables turn hearer) []
+      ≡ cond (finds tables turn hearer) (found turn) [] ++ cond (finds tables turn hearer) (found_subscription tables turn hearer) []
       ++ cond (finds tables turn hearer) comers [] ++ cond (finds tables turn hearer) (found_messages tables turn hearer) []
   finder_heard =
       let users = those tables (finds tables turn) in
-      let a = heard_those hearer tables rise.users (finds tables turn) nobody_finds (found tables turn) in
+      let a = heard_those hearer tables rise.users (finds tables turn) nobody_finds (found turn) in
       let b = heard_own_parts hearer tables rise.users (finds tables turn) nobody_finds (found_subscription tables turn) in
       let c = heard_those hearer tables rise.users (finds tables turn) nobody_finds comers in
       let d = heard_own_parts hearer tables rise.users (finds tables turn) nobody_finds (found_messages tables turn) in
-      heard_four hearer (told users (found tables turn)) (each tables (finds tables turn) (found_subscription tables turn)) (told users comers)
+      heard_four hearer (told users (found turn)) (each tables (finds tables turn) (found_subscription tables turn)) (told users comers)
       (each tables (finds tables turn) (found_messages tables turn))
       ∙ (λ i. a i ++ b i ++ c i ++ d i)
 
@@ -249,10 +249,10 @@ module _ (tables : Tables) (rise : TablesSorted tables) (turn : Turn)
 
   -- of the one subscription that turns
   abbrev own_events : List Event
-  own_events = own_change tables turn (before tables turn) turn.subscription
+  own_events = own_change turn (before tables turn) turn.subscription
 
   abbrev mine : UserId → List Event
-  mine user = cond (keeps tables turn user) (own_change tables turn (subscription_of tables user turn.stream) (subscription_after tables turn user)) []
+  mine user = cond (keeps tables turn user) (own_change turn (subscription_of tables user turn.stream) (subscription_after tables turn user)) []
 
   own_heard : heard_of hearer (cond (keeps tables turn turn.user) (to (Only (turn.user ∷ [])) own_events) []) ≡ mine hearer
   own_heard = by_keep (keeps tables turn turn.user) ∙ go (is_at (user_cmp hearer) turn.user) refl
@@ -265,7 +265,7 @@ module _ (tables : Tables) (rise : TablesSorted tables) (turn : Turn)
           → cond (is_at (user_cmp hearer) turn.user) (cond (keeps tables turn turn.user) own_events []) [] ≡ mine hearer
       go true at =
           ap (λ b. cond b (cond (keeps tables turn turn.user) own_events []) []) at
-          ∙ ap (λ (o : Option Subscription). cond (keeps tables turn turn.user) (own_change tables turn (before tables turn) o) []) (sym own_itself)
+          ∙ ap (λ (o : Option Subscription). cond (keeps tables turn turn.user) (own_change turn (before tables turn) o) []) (sym own_itself)
           ∙ ap mine (sym (at_same user_order hearer turn.user at))
       go false off =
           let old = subscription_of tables hearer turn.stream in
@@ -273,26 +273,26 @@ module _ (tables : Tables) (rise : TablesSorted tables) (turn : Turn)
           ap (λ b. cond b (cond (keeps tables turn turn.user) own_events []) []) off
           ∙ either_way (keeps tables turn hearer) []
           ∙ ap (λ l. cond (keeps tables turn hearer) l []) (sym (same_own tables turn old))
-          ∙ ap (λ (o : Option Subscription). cond (keeps tables turn hearer) (own_change tables turn old o) []) (sym stays)
+          ∙ ap (λ (o : Option Subscription). cond (keeps tables turn hearer) (own_change turn old o) []) (sym stays)
 
   -- and of the subscriber
   abbrev joined : List Event
-  joined = cond (is_active_user tables turn.user) (peer_change tables turn (before tables turn) turn.subscription) []
+  joined = cond (is_active_user tables turn.user) (peer_change turn (before tables turn) turn.subscription) []
 
-  peer_heard : heard_of hearer (cond (is_active_user tables turn.user) (told (those tables (keeps tables turn)) (peer_change tables turn (before tables turn) turn.subscription)) [])
+  peer_heard : heard_of hearer (cond (is_active_user tables turn.user) (told (those tables (keeps tables turn)) (peer_change turn (before tables turn) turn.subscription)) [])
       ≡ cond (keeps tables turn hearer) joined []
   peer_heard = go (is_active_user tables turn.user)
     where
-      go : (b : Bool) → heard_of hearer (cond b (told (those tables (keeps tables turn)) (peer_change tables turn (before tables turn) turn.subscription)) [])
-          ≡ cond (keeps tables turn hearer) (cond b (peer_change tables turn (before tables turn) turn.subscription) []) []
-      go true = heard_those hearer tables rise.users (keeps tables turn) nobody_keeps (peer_change tables turn (before tables turn) turn.subscription)
+      go : (b : Bool) → heard_of hearer (cond b (told (those tables (keeps tables turn)) (peer_change turn (before tables turn) turn.subscription)) [])
+          ≡ cond (keeps tables turn hearer) (cond b (peer_change turn (before tables turn) turn.subscription) []) []
+      go true = heard_those hearer tables rise.users (keeps tables turn) nobody_keeps (peer_change turn (before tables turn) turn.subscription)
       go false = either_way (keeps tables turn hearer) []
 
   keeper_heard : heard_of hearer (keeper_parts tables turn) ≡ cond (keeps tables turn hearer) (changed tables turn) [] ++ mine hearer ++ cond (keeps tables turn hearer) joined []
   keeper_heard =
       let a = heard_those hearer tables rise.users (keeps tables turn) nobody_keeps (changed tables turn) in
       heard_three hearer (told (those tables (keeps tables turn)) (changed tables turn)) (cond (keeps tables turn turn.user) (to (Only (turn.user ∷ [])) own_events) [])
-      (cond (is_active_user tables turn.user) (told (those tables (keeps tables turn)) (peer_change tables turn (before tables turn) turn.subscription)) [])
+      (cond (is_active_user tables turn.user) (told (those tables (keeps tables turn)) (peer_change turn (before tables turn) turn.subscription)) [])
       ∙ (λ i. a i ++ own_heard i ++ peer_heard i)
 
   -- what those who lose it hear

@@ -40,6 +40,23 @@ is_in stream (place.Direct recipients) = false
 abbrev pub event_of : {X : Type 0} → (X → Event) → Option X → List Event
 event_of make value = made_of (λ x. make x ∷ []) value
 
+module _ (turn : Turn) where
+  -- the stream, for those who find it
+  abbrev pub found : List Event
+  found = event_of (λ row. event.StreamCreate ((turn.stream, shown_stream row) ∷ [])) turn.row
+
+  -- what changed in the user's subscription, and among the subscribers
+  abbrev pub own_change : Option Subscription → Option Subscription → List Event
+  own_change None None = []
+  own_change None (Some new) = event.SubAdd ((turn.stream, shown_subscription new) ∷ []) ∷ []
+  own_change (Some old) None = event.SubRemove (turn.stream ∷ []) ∷ []
+  own_change (Some old) (Some new) = subscription_changes (turn.stream, (shown_subscription old, shown_subscription new))
+
+  abbrev pub peer_change : Option Subscription → Option Subscription → List Event
+  peer_change None (Some new) = event.PeerAdd turn.stream (turn.user ∷ []) ∷ []
+  peer_change (Some old) None = event.PeerRemove turn.stream (turn.user ∷ []) ∷ []
+  peer_change old new = []
+
 module _ (tables : Tables) where
   -- the users who pass a test
   abbrev pub those : (UserId → Bool) → List UserId
@@ -56,9 +73,6 @@ module _ (tables : Tables) where
 
   module _ (turn : Turn) where
     -- those who find the stream are told of it, of their own subscription, of the subscribers and of their messages there
-    abbrev pub found : List Event
-    found = event_of (λ row. event.StreamCreate ((turn.stream, shown_stream row) ∷ [])) turn.row
-
     abbrev pub found_subscription : UserId → List Event
     found_subscription user = event_of (λ own. event.SubAdd ((turn.stream, shown_subscription own) ∷ [])) (subscription_after tables turn user)
 
@@ -67,7 +81,7 @@ module _ (tables : Tables) where
 
     abbrev pub finder_parts : List Part
     finder_parts =
-        told (those (finds tables turn)) found
+        told (those (finds tables turn)) (found turn)
         ++ each (finds tables turn) found_subscription
         ++ told (those (finds tables turn)) (one_of (event.PeerAdd turn.stream) (keys_of (peers_after tables turn)))
         ++ each (finds tables turn) found_messages
@@ -78,25 +92,14 @@ module _ (tables : Tables) where
     changed =
         made_of (λ both. stream_changes (turn.stream, (shown_stream both.0, shown_stream both.1))) (both_of (stream_at tables turn.stream) turn.row)
 
-    abbrev pub own_change : Option Subscription → Option Subscription → List Event
-    own_change None None = []
-    own_change None (Some new) = event.SubAdd ((turn.stream, shown_subscription new) ∷ []) ∷ []
-    own_change (Some old) None = event.SubRemove (turn.stream ∷ []) ∷ []
-    own_change (Some old) (Some new) = subscription_changes (turn.stream, (shown_subscription old, shown_subscription new))
-
-    abbrev pub peer_change : Option Subscription → Option Subscription → List Event
-    peer_change None (Some new) = event.PeerAdd turn.stream (turn.user ∷ []) ∷ []
-    peer_change (Some old) None = event.PeerRemove turn.stream (turn.user ∷ []) ∷ []
-    peer_change old new = []
-
     abbrev pub before : Option Subscription
     before = subscription_of tables turn.user turn.stream
 
     abbrev pub keeper_parts : List Part
     keeper_parts =
         told (those (keeps tables turn)) changed
-        ++ (if keeps tables turn turn.user then to (Only (turn.user ∷ [])) (own_change before turn.subscription) else [])
-        ++ (if is_active_user tables turn.user then told (those (keeps tables turn)) (peer_change before turn.subscription) else [])
+        ++ (if keeps tables turn turn.user then to (Only (turn.user ∷ [])) (own_change turn before turn.subscription) else [])
+        ++ (if is_active_user tables turn.user then told (those (keeps tables turn)) (peer_change turn before turn.subscription) else [])
 
     -- those who lose it are told so, of their subscription and of their messages there
     abbrev pub loser_parts : List Part

@@ -4,4 +4,4 @@
 pub mod laws;
 mod turn;
 
-pub use turn::Turn;
+pub use turn::{turn_of, Turn};
