@@ -1,3 +1,4 @@
 pub mod Laws
+pub mod Sights
 pub mod StreamParts
 pub mod Turned

@@ -2,6 +2,10 @@
 #![tactic(auto)]
 
 pub mod laws;
+mod own;
+mod sight;
 mod turn;
 
+pub use own::{push_each_own, shown_subscription, Own};
+pub use sight::{peers_after, those, Sight};
 pub use turn::{turn_of, Turn};
