@@ -1,7 +1,6 @@
 -- Lists of which one key's row alone may have changed.
 use Rattle.std.proofs.Common.{◌≡◌, cond, List, Ordering, Option, None, Some, option_map, ap, refl, ◌∙◌}
 use Rattle.std.specs.BTreeMap.{insert_entry, is_at}
-use Rattle.std.specs.Map.{remove_entry}
 use Rattle.ev_rows.specs.KeyOrder.{KeyOrder}
 use Rattle.ev_rows.specs.Rows.{AgreeBut, SortedByKey, row_at}
 use Rattle.ev_rows.proofs.RiseLemmas.{rise-insert_entry, rise-remove_entry}

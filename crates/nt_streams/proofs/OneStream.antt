@@ -1,5 +1,5 @@
 -- What changes in a user's view where one stream's row, and one user's subscription to it, may change.
-use Rattle.std.proofs.Common.{◌≡◌, Bool, true, false, not, ◌&&◌, ◌==◌, cond, List, [], ◌∷◌, ◌++◌, map, flat_map, Option, None, Some, is_some, option_map, option_and_then, sym, ap, refl, ◌∙◌, Ordering, Less, Equal, Greater}
+use Rattle.std.proofs.Common.{◌≡◌, Bool, true, false, not, ◌&&◌, ◌==◌, cond, List, [], ◌++◌, map, flat_map, Option, None, Some, is_some, option_map, option_and_then, sym, ap, refl, ◌∙◌, Ordering, Less, Equal, Greater}
 use Rattle.std.specs.BTreeMap.{is_at}
 use Rattle.std.specs.Option.{option_map_or}
 use Rattle.std.specs.Ordering.{is_eq, ordering_then}
@@ -37,8 +37,8 @@ use Rattle.zr_types.specs.declared.posts.Receipt.{Receipt}
 use Rattle.zr_types.specs.declared.streams.Stream.{Stream}
 use Rattle.zr_types.specs.declared.streams.Subscription.{Subscription}
 use Rattle.zr_types.specs.Sound.{TablesSorted}
-use Rattle.zr_types.specs.Tables.{Tables, message_at, receipt_of, stream_at, subscription_of, user_at}
-use Rattle.zr_types.specs.Visibility.{is_subscribed, role_of, same_user, sees_at, sees_by, sees_stream}
+use Rattle.zr_types.specs.Tables.{Tables, message_at, receipt_of, stream_at, subscription_of}
+use Rattle.zr_types.specs.Visibility.{is_subscribed, role_of, sees_at, sees_by, sees_stream}
 use Rattle.zw_views.specs.RowViews.{message_in, stream_in, subscription_in}
 use Rattle.zw_views.specs.Views.{messages, peers, shown_message, shown_stream, shown_subscription, streams, subscriptions, view_of}
 

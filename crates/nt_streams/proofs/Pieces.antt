@@ -1,8 +1,8 @@
 -- What a user hears of parts for those who pass a test, and pieces for what comes and goes.
-use Rattle.std.proofs.Common.{◌≡◌, Bool, true, false, not, ◌&&◌, ◌||◌, cond, List, [], ◌∷◌, ◌++◌, flat_map, Option, None, Some, is_some, option_map, option_and_then, sym, ap, refl, ◌∙◌}
+use Rattle.std.proofs.Common.{◌≡◌, Bool, true, false, not, ◌&&◌, ◌||◌, cond, List, [], ◌∷◌, ◌++◌, Option, None, Some, is_some, option_map, option_and_then, sym, ap, refl, ◌∙◌}
 use Rattle.std.specs.BTreeMap.{is_at}
 use Rattle.std.specs.List.{cons_option}
-use Rattle.ev_rows.specs.Rows.{SortedByKey, fresh, gained, made_of, only_if, row_at, sift}
+use Rattle.ev_rows.specs.Rows.{SortedByKey, fresh, gained, made_of, only_if, sift}
 use Rattle.ev_rows.proofs.RowLemmas.{at_itself, at_turned, flat_map_at, row_at-sift}
 use Rattle.ev_rows.proofs.ChangeLemmas.{fresh-same}
 use Rattle.ev_base.specs.Orders.{user_cmp, user_order}

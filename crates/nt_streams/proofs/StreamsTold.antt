@@ -1,5 +1,5 @@
 -- What a user hears of the parts of a command of streams is what it changes in the user's view.
-use Rattle.std.proofs.Common.{◌≡◌, ℕ, ◌+◌, List, [], ◌∷◌, ◌++◌, length, true, None, Some, option_map, subst, refl}
+use Rattle.std.proofs.Common.{◌≡◌, ℕ, ◌+◌, [], ◌∷◌, ◌++◌, length, Some, option_map, subst, refl}
 use Rattle.std.specs.BTreeMap.{insert_entry}
 use Rattle.ev_base.specs.Orders.{stream_cmp, stream_order, user_stream_cmp, user_stream_order}
 use Rattle.ev_base.specs.declared.ids.UserId.{UserId}

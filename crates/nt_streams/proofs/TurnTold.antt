@@ -3,7 +3,7 @@ use Rattle.std.proofs.Common.{◌≡◌, Bool, true, false, not, ◌&&◌, cond,
 use Rattle.std.specs.BTreeMap.{is_at}
 use Rattle.std.specs.Option.{option_map_or}
 use Rattle.std.proofs.lemmas.Bool.{false≢true}
-use Rattle.ev_rows.specs.Rows.{AgreeBut, SortedByKey, both_of, fresh, gained, keys_of, made_of, one_of, one_row, only_if, row_at, sift}
+use Rattle.ev_rows.specs.Rows.{AgreeBut, both_of, fresh, gained, keys_of, made_of, one_of, one_row, only_if, row_at}
 use Rattle.ev_rows.proofs.RiseLemmas.{rise-sift}
 use Rattle.ev_rows.proofs.RowLemmas.{AgreeBut-sift, at_itself, at_same, row_at-sift}
 use Rattle.ev_rows.proofs.ChangeLemmas.{gained_at}
@@ -158,9 +158,9 @@ module _ (tables : Tables) (turn : Turn) where
           let front = told_of_stream (Some new) ++ told_of_own new_own ++ told_of_peers ++ told_of_messages in
           let rows = sym (hidden_row old) in
           let owns : told_of_own new_own ≡ subscription_at_key turn.stream (shown_own false old old_own) (option_map shown_subscription new_own) =
-              sym (sub_found new_own) ∙ ap (λ o. subscription_at_key turn.stream o (option_map shown_subscription new_own)) (sym (hidden_own old old_own)) in
+          sym (sub_found new_own) ∙ ap (λ o. subscription_at_key turn.stream o (option_map shown_subscription new_own)) (sym (hidden_own old old_own)) in
           let comers : told_of_peers ≡ one_of (PeerAdd turn.stream) (keys_of (gained user_cmp {V = Unit {0}} [] new_peers)) ++ [] =
-              ap (λ (l : Users). one_of (PeerAdd turn.stream) (keys_of l)) (sym (gained_of_none new_peers)) ∙ sym (append-nil (one_of (PeerAdd turn.stream) (keys_of (gained user_cmp {V = Unit {0}} [] new_peers)))) in
+          ap (λ (l : Users). one_of (PeerAdd turn.stream) (keys_of l)) (sym (gained_of_none new_peers)) ∙ sym (append-nil (one_of (PeerAdd turn.stream) (keys_of (gained user_cmp {V = Unit {0}} [] new_peers)))) in
           let arrived = sym (append-nil told_of_messages) in
           append-nil (front ++ []) ∙ append-nil front
           ∙ (λ i. stream_at_key turn.stream (rows i) (Some (shown_stream new)) ++ owns i ++ comers i ++ arrived i)
@@ -171,7 +171,7 @@ module _ (tables : Tables) (turn : Turn) where
           let first = (StreamDelete (turn.stream ∷ []) ∷ []) ++ cond (is_some old_own) (SubRemove (turn.stream ∷ []) ∷ []) [] in
           let rows = sym (hidden_row new) in
           let owns : cond (is_some old_own) (SubRemove (turn.stream ∷ []) ∷ []) [] ≡ subscription_at_key turn.stream (option_map shown_subscription old_own) (shown_own false new new_own) =
-              sym (sub_lost old_own) ∙ ap (λ o. subscription_at_key turn.stream (option_map shown_subscription old_own) o) (sym (hidden_own new new_own)) in
+          sym (sub_lost old_own) ∙ ap (λ o. subscription_at_key turn.stream (option_map shown_subscription old_own) o) (sym (hidden_own new new_own)) in
           let nobody = sym (quiet_peers true new) in
           ap (λ l. l ++ gone) (sym (append-nil first))
           ∙ (λ i. stream_at_key turn.stream (Some (shown_stream old)) (rows i) ++ owns i ++ nobody i ++ gone)

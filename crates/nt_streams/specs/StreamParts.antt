@@ -1,5 +1,5 @@
 -- The parts of the notice of a change of streams.
-use Rattle.std.specs.Prelude.{ℕ, Bool, false, not, ◌&&◌, ◌==◌, if◌then◌else◌, List, [], ◌∷◌, ◌++◌, map, flat_map, Option, None, Some, option_map, ⊤}
+use Rattle.std.specs.Prelude.{ℕ, Bool, false, ◌&&◌, ◌==◌, if◌then◌else◌, List, [], ◌∷◌, ◌++◌, map, flat_map, Option, None, Some, option_map}
 use Rattle.ev_base.specs.declared.ids.UserId.{UserId}
 use Rattle.ev_base.specs.declared.ids.StreamId.{StreamId}
 use Rattle.ev_base.specs.declared.ids.MessageId.{MessageId}
@@ -13,18 +13,17 @@ use Rattle.ev_types.specs.declared.notice.Audience.TheVariants.{Only}
 use Rattle.ev_types.specs.declared.notice.Part.{Part}
 use Rattle.ev_types.specs.declared.rows.ShownMessage.{ShownMessage}
 use Rattle.nt_rules.specs.Parts.{to}
-use Rattle.nt_streams.specs.Turned.{finds, keeps, loses, peers_after, saw, subscription_after, turn_of}
+use Rattle.nt_streams.specs.Turned.{finds, keeps, loses, peers_after, subscription_after, turn_of}
 use Rattle.nt_streams.specs.declared.turn.Turn.{Turn}
 use Rattle.zr_types.specs.declared.command.Command.TheVariants.{Streams}
 use Rattle.zr_types.specs.declared.command.StreamCommand.{StreamCommand}
 use Rattle.zr_types.specs.declared.command.SubField.{SubField}
-use Rattle.zr_types.specs.declared.streams.Stream.{Stream}
 use Rattle.zr_types.specs.declared.streams.Subscription.{Subscription}
 use Rattle.zr_types.specs.Tables.{Tables, receipt_of, stream_at, subscription_of}
 use Rattle.zr_types.specs.Visibility.{is_active_user, is_subscribed}
 use Rattle.zr_types.specs.Checks.{stored_texts}
 use Rattle.zr_types.specs.Commands.{color_of}
-use Rattle.zw_views.specs.Views.{peers, shown_message, shown_stream, shown_subscription}
+use Rattle.zw_views.specs.Views.{shown_message, shown_stream, shown_subscription}
 
 -- a part for each event, which these users hear, and none where there is nobody
 abbrev pub told : List UserId → List Event → List Part

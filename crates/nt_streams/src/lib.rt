@@ -1,11 +1,12 @@
 //! The notices of changes of streams and subscriptions.
 #![tactic(auto)]
 
+mod changed;
 pub mod laws;
 mod own;
+mod parts;
 mod sight;
+mod streams;
 mod turn;
 
-pub use own::{push_each_own, shown_subscription, Own};
-pub use sight::{peers_after, those, Sight};
-pub use turn::{turn_of, Turn};
+pub use streams::notice;

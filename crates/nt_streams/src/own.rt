@@ -5,7 +5,7 @@ ghost use Rattle.zw_views.specs.Views.{shown_subscription};
 ghost use Rattle.nt_streams.specs.StreamParts.{found_messages, found_subscription, is_in, messages_in};
 ghost use Rattle.nt_streams.specs.Sights.{gone, message_in, own_events, own_part, sight_of};
 
-use crate::sight::{has_sight, subscription_after, Sight};
+use crate::sight::{Sight, has_sight, subscription_after};
 use crate::turn::Turn;
 use ev_base::{Keyed, Listed, MessageId, NoMemory, Place, StreamId, UserId};
 use ev_laws::push_one_of;
@@ -120,12 +120,7 @@ fn found_messages(
     Ok(events)
 }
 
-fn gone(
-    alloc: Global,
-    realm: &Realm,
-    turn: &Turn,
-    user: UserId,
-) -> Result<Vec<Event>, NoMemory>
+fn gone(alloc: Global, realm: &Realm, turn: &Turn, user: UserId) -> Result<Vec<Event>, NoMemory>
     ensures { IfOk result
         (λ events. events.items ≡ gone realm.now.state.tables turn.now user) }
 {

@@ -38,7 +38,9 @@ pub fn turn_of(
             created(realm, actor, &texts[0], &texts[1], *privacy, &texts[2])
         }
         StreamCommand::Update {
-            stream, property, ..
+            stream,
+            property,
+            ..
         } => renamed(realm, actor, *stream, *property, &texts[0]),
         StreamCommand::SetPrivacy { stream, privacy } => {
             with_privacy(realm, actor, *stream, *privacy)
@@ -155,12 +157,7 @@ fn archived(realm: &Realm, actor: UserId, stream: StreamId) -> Result<Turn, NoMe
     row_turn(realm, actor, stream, Some(row))
 }
 
-fn subscribed(
-    realm: &Realm,
-    user: UserId,
-    stream: StreamId,
-    color: &Text,
-) -> Result<Turn, NoMemory>
+fn subscribed(realm: &Realm, user: UserId, stream: StreamId, color: &Text) -> Result<Turn, NoMemory>
     requires { color.now ≡ new_subscription.color }
     ensures { IfOk result
         (λ turn. turn ≡ own_turn realm.now.state.tables user stream (Some new_subscription)) }
