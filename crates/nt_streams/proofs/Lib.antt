@@ -1,0 +1,6 @@
+mod Checked
+mod OneRow
+mod OneStream
+mod Pieces
+mod StreamsTold
+mod TurnTold
