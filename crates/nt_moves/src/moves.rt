@@ -7,14 +7,15 @@ ghost use Rattle.nt_moves.specs.MoveParts.{all_movers, has_all, has_receipt, mov
 
 use crate::told::push_told;
 use ev_base::{Listed, MessageId, NoMemory, StreamId, Text, UserId};
-use ev_types::{Audience, Event, Part};
-use nt_parts::{keys, push_to_one};
+use ev_types::{Event, Part};
+use nt_parts::{keys, push_to_one, push_to_users};
 use std::alloc::Global;
 use zr_realm::Realm;
 use zr_types::User;
 use zr_view::sifted;
 
 /// Messages of one stream that move to a topic of a stream, which may be the same.
+#[derive(Drop)]
 pub struct Move<'a> {
     pub from: StreamId,
     pub into: StreamId,
@@ -40,13 +41,13 @@ fn push_shared(realm: &Realm, moves: &Move<'_>, parts: &mut Vec<Part>) -> Result
         return Ok(());
     }
     let alloc = *parts.allocator();
-    let audience = Audience::Only(Listed::from_vec(all_movers(alloc, realm, moves)?));
+    let users = all_movers(alloc, realm, moves)?;
     let event = Event::MessageMoved {
         messages: Listed::from_vec(moves.moved.to_vec(alloc)?),
         stream: moves.into,
         topic: moves.topic.clone()?,
     };
-    Ok(parts.push(Part { audience, event })?)
+    push_to_users(parts, users, event)
 }
 
 // The users who see both streams and have all the messages.

@@ -38,6 +38,19 @@ pub fn push_to_one(parts: &mut Vec<Part>, user: UserId, events: Vec<Event>) -> R
     Ok(())
 }
 
+/// Adds a part that these users alone hear.
+pub fn push_to_users(
+    parts: &mut Vec<Part>,
+    users: Vec<UserId>,
+    event: Event,
+) -> Result<(), NoMemory>
+    ensures { IfOk result (λ _. parts.new.items
+        ≡ parts.old.items ++ to (Audience.Only users.items) (event ∷ [])) }
+{
+    let audience = Audience::Only(Listed::from_vec(users));
+    Ok(parts.push(Part { audience, event })?)
+}
+
 /// Adds a part that those hear who see a stream.
 pub fn push_to_viewers(
     realm: &Realm,
@@ -49,8 +62,7 @@ pub fn push_to_viewers(
         ++ to (Audience.Only (keys_of (viewers realm.now.state.tables stream))) (event ∷ [])) }
 {
     let users = viewers(*parts.allocator(), realm, stream)?;
-    let audience = Audience::Only(Listed::from_vec(users));
-    Ok(parts.push(Part { audience, event })?)
+    push_to_users(parts, users, event)
 }
 
 /// The users who see a stream.

@@ -8,8 +8,9 @@ ghost use Rattle.ev_types.specs.declared.notice.Audience.{Audience};
 ghost use Rattle.nt_rules.specs.Parts.{readers, to};
 ghost use Rattle.zr_types.specs.Visibility.{sees_message};
 
-use ev_base::{Listed, MessageId, NoMemory, UserId};
-use ev_types::{Audience, Event, Part};
+use crate::audiences::push_to_users;
+use ev_base::{MessageId, NoMemory, UserId};
+use ev_types::{Event, Part};
 use std::alloc::Global;
 use zr_realm::Realm;
 use zr_types::Receipt;
@@ -27,8 +28,7 @@ pub fn push_to_readers(
         ++ to (Audience.Only (keys_of (readers realm.now.state.tables message))) (event ∷ [])) }
 {
     let users = readers(*parts.allocator(), realm, message)?;
-    let audience = Audience::Only(Listed::from_vec(users));
-    Ok(parts.push(Part { audience, event })?)
+    push_to_users(parts, users, event)
 }
 
 /// The users who see a message and have a receipt for it.
