@@ -1,5 +1,5 @@
 -- What the core does with an input, on its data alone.
-use Rattle.std.specs.Prelude.{◌≡◌, ℕ, ◌+◌, ◌-◌, true, false, Option, Some, List, [], ◌∷◌, ◌++◌, length, drop, take, min}
+use Rattle.std.specs.Prelude.{◌≡◌, ℕ, ◌+◌, ◌-◌, true, false, Some, List, [], ◌∷◌, ◌++◌, length, drop, take, min}
 use Rattle.ev_base.specs.declared.ids.UserId.{UserId}
 use Rattle.ev_types.specs.declared.notice.Notice.{Notice}
 use Rattle.ev_types.specs.Audiences.{events_for}
@@ -10,7 +10,6 @@ use Rattle.zr_types.specs.Tables.{RealmState}
 use Rattle.zr_types.specs.Visibility.{is_active_user}
 use Rattle.zr_types.specs.Refusals.{refusal}
 use Rattle.zr_types.specs.Commits.{IsCommitted}
-use Rattle.zr_types.specs.Effects.{after_command}
 use Rattle.zw_views.specs.Views.{section_of, view_of}
 use Rattle.zw_traces.specs.declared.realm.RealmInput.{RealmInput}
 use Rattle.zw_traces.specs.declared.realm.RealmInput.TheVariants.{Commit, Fetch, NoticeAll, Take}
@@ -32,20 +31,6 @@ pub record LaysNotice (old : CoreState) (actor : UserId) (moment : ℕ) (command
   pub notices : new.notices ≡ old.notices ++ notice ∷ []
   pub tells : TellsCommit old.realm new.realm (length old.notices + 1) command notice
   pub announced : new.announced ≡ old.announced
-
--- the realm is that before after some command, which deactivates this user
-pub record IsAfterCommand (before after : RealmState) (ends : Option UserId) : Type 0 where
-  pub actor : UserId
-  pub moment : ℕ
-  pub command : Command
-  pub effect : after ≡ after_command actor moment command before
-  pub ends_are : ends ≡ deactivated_by command
-
--- the realm was taken in, and a notice of what changed was laid
-pub record HasNotice (old : CoreState) (after : RealmState) (ends : Option UserId) (new : CoreState) : Type 0 where
-  pub notice : Notice
-  pub is : new ≡ record { realm = after; notices = old.notices ++ notice ∷ []; announced = old.announced }
-  pub tells : (command : Command) → ends ≡ deactivated_by command → TellsCommit old.realm after (length old.notices + 1) command notice
 
 -- the announced notices from this number on, no more than are handed out at once
 abbrev pub notices_from : CoreState → ℕ → List Notice

@@ -1,3 +1,2 @@
-pub mod SlowNotices
 pub mod CoreStates
 pub mod CoreSteps

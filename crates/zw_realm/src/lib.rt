@@ -2,7 +2,7 @@
 #![tactic(auto)]
 
 mod checking;
-mod comparing;
+mod noticing;
 mod realm_core;
 
 pub use realm_core::RealmCore;

@@ -1,25 +1,22 @@
 //! The core of a realm, which answers its inputs one at a time.
 
-ghost use Rattle.std.specs.Prelude.{◌≡◌, ◌+◌, ◌≤◌, IfOk, List, OnErr, [], ◌∷◌, length, true};
+ghost use Rattle.std.specs.Prelude.{◌≡◌, ◌+◌, ◌≤◌, IfOk, List, OnErr, [], ◌∷◌, length};
 ghost use Rattle.zr_types.specs.declared.command.Command.{Command};
 ghost use Rattle.zr_types.specs.Checks.{IsChangeOf, WasChecked};
-ghost use Rattle.zr_types.specs.Commits.{IsCommitted};
-ghost use Rattle.nt_rules.specs.Kinds.{is_of_people};
 ghost use Rattle.zw_traces.specs.declared.realm.RealmStep.{RealmStep};
-ghost use Rattle.zw_traces.specs.RealmTrace.{RealmAnswers, deactivated_by};
+ghost use Rattle.zw_traces.specs.RealmTrace.{RealmAnswers};
 ghost use Rattle.zw_realm.specs.CoreStates.{IsProper, RealmRepresents};
-ghost use Rattle.zw_realm.specs.CoreSteps.{HasNotice, IsAfterCommand, IsCoreStep, LaysNotice, notices_from};
+ghost use Rattle.zw_realm.specs.CoreSteps.{IsCoreStep, LaysNotice, notices_from};
 
 use crate::checking::check;
-use crate::comparing::compared_notice;
+use crate::noticing::notice;
 use cmd_rules::commit_change;
 use ev_base::{ExactClone, Listed, NoMemory, UserId};
 use ev_types::{Notice, Section};
-use nt_people::notice;
 use std::alloc::Global;
 use std::marker::Model;
 use zr_realm::Realm;
-use zr_types::{Change, Command, CommitFault, Committed, PeopleCommand};
+use zr_types::{Change, Command, CommitFault, Committed};
 use zr_view::{FetchFault, fetch};
 use zw_traces::{RealmInput, RealmReply};
 
@@ -128,25 +125,10 @@ impl RealmCore {
         }
     }
 
-    // Makes a change and lays its notice.
+    // Makes a change and lays its notice. All that takes memory comes before the change, so that out of
+    // memory leaves the core as it was.
     fn lay(&mut self, alloc: Global, change: Change) -> Result<Committed, NoMemory>
         requires { WasChecked self.old.realm change }
-        ensures ok { IfOk result (λ made. (command : Command)
-            → IsChangeOf self.old.realm command change
-            → LaysNotice self.old change.actor change.moment command made self.new) }
-        ensures err { OnErr result (self.new ≡ self.old) }
-    {
-        match &change.command {
-            Command::People(_) => self.lay_told(alloc, change),
-            _ => self.lay_compared(alloc, change),
-        }
-    }
-
-    // Lays the notice that the change itself gives. All that takes memory comes before the change,
-    // so that out of memory leaves the core as it was.
-    fn lay_told(&mut self, alloc: Global, change: Change) -> Result<Committed, NoMemory>
-        requires people { is_of_people change.command ≡ true }
-        requires checked { WasChecked self.old.realm change }
         ensures ok { IfOk result (λ made. (command : Command)
             → IsChangeOf self.old.realm command change
             → LaysNotice self.old change.actor change.moment command made self.new) }
@@ -157,33 +139,6 @@ impl RealmCore {
         let made = commit_change(alloc, &mut self.realm, change)?;
         self.notices.push_reserved(notice);
         Ok(made)
-    }
-
-    // Lays the notice of the compared views.
-    fn lay_compared(&mut self, alloc: Global, change: Change) -> Result<Committed, NoMemory>
-        requires { WasChecked self.old.realm change }
-        ensures ok { IfOk result (λ made. (command : Command)
-            → IsChangeOf self.old.realm command change
-            → LaysNotice self.old change.actor change.moment command made self.new) }
-        ensures err { OnErr result (self.new ≡ self.old) }
-    {
-        let ends = deactivated_user(&change.command);
-        let (after, made) = committed_copy(alloc, &self.realm, change)?;
-        self.replace(alloc, after, ends)?;
-        Ok(made)
-    }
-
-    // Takes the realm that a commit made in place of the one before, and lays the notice of it.
-    fn replace(&mut self, alloc: Global, after: Realm, ends: Option<UserId>) -> Result<(), NoMemory>
-        requires { IsAfterCommand self.old.realm after.state ends }
-        ensures ok { IfOk result (λ _. HasNotice self.old after.state ends self.new) }
-        ensures err { OnErr result (self.new ≡ self.old) }
-    {
-        let number = self.commits() + 1;
-        let notice = compared_notice(alloc, &self.realm, &after, number, ends)?;
-        self.notices.push(notice)?;
-        self.realm = after;
-        Ok(())
     }
 
     fn fetch(&self, alloc: Global, user: UserId, section: Section) -> RealmReply
@@ -232,31 +187,6 @@ impl RealmCore {
             list.push(copied(notice)?)?;
         }
         Ok(list)
-    }
-}
-
-// A copy of the realm with the change made, and what is told of it.
-fn committed_copy(
-    alloc: Global,
-    realm: &Realm,
-    change: Change,
-) -> Result<(Realm, Committed), NoMemory>
-    requires { WasChecked realm.now.state change }
-    ensures { IfOk result (λ pair. (command : Command) → IsChangeOf realm.now.state command change
-        → IsCommitted realm.now.state pair.0.state change.actor change.moment command pair.1) }
-{
-    let mut after = realm.copy()?;
-    let made = commit_change(alloc, &mut after, change)?;
-    Ok((after, made))
-}
-
-// The user whom a command deactivates.
-fn deactivated_user(command: &Command) -> Option<UserId>
-    ensures { result ≡ deactivated_by command.now }
-{
-    match command {
-        Command::People(PeopleCommand::UserDeactivate { user }) => Some(*user),
-        _ => None,
     }
 }
 
