@@ -18,8 +18,8 @@ PROGRAM = pathlib.Path(__file__).parent.parent / "crates/rows_bench/out/rows_ben
 WORKS = [
     ("fill", None, "a million puts in rising order"),
     ("middle", "fill", "ten thousand puts in the middle of a million rows"),
-    ("merge", "fill", "a merge of ten thousand rows into a million"),
-    ("delete", "fill", "a walk over a million rows that drops ten thousand"),
+    ("merge", "fill", "a merge of ten thousand rows behind a million"),
+    ("delete", "fill", "a walk over a million rows that drops a hundred"),
     ("prepare 10000", "state 10000", "making 10,000 events ready for sections of 10,000 rows"),
     ("prepare 20000", "state 20000", "making 20,000 events ready for sections of 20,000 rows"),
     ("apply 10000", "prepare 10000", "applying 10,000 events to sections of 10,000 rows"),
