@@ -1,0 +1,9 @@
+pub mod Actions
+pub mod Alternatives
+pub mod Marks
+pub mod Paths
+pub mod People
+pub mod Posts
+pub mod Queues
+pub mod Routed
+pub mod Streams
