@@ -1,8 +1,8 @@
 -- Lists of rows sorted by key: one row in front, and the edits that keep them rising.
-use Rattle.std.proofs.Common.{◌≡◌, Bool, true, false, cond, List, [], ◌∷◌, ◌++◌, filter, Less, Equal, Greater, Ordering, Option, None, Some, option_map, sym, ap, subst, refl, ◌∙◌}
+use Rattle.std.proofs.Common.{◌≡◌, ℕ, zero, suc, ◌≤◌, drop, arith, Bool, true, false, cond, List, [], ◌∷◌, ◌++◌, filter, Less, Equal, Greater, Ordering, Option, None, Some, option_map, sym, ap, subst, refl, ◌∙◌}
 use Rattle.std.specs.Cmp.{IsTotalOrder}
 use Rattle.std.specs.Ordering.{match_ordering, ordering_reverse}
-use Rattle.std.specs.List.{AllByRecursion, cons_option, items_where_true}
+use Rattle.std.specs.List.{AllByRecursion, cons_option, items_where_true, remove_range}
 use Rattle.std.specs.List.Sorted.{IsStrictlySortedBy}
 use Rattle.std.specs.Map.{remove_entry, set_value}
 use Rattle.std.specs.BTreeMap.{insert_entry}
@@ -159,3 +159,29 @@ module _ {K V : Type 0} (cmp : K → K → Ordering) where
       go : (b : Bool) → SortedByKey cmp (filter test rows) → SortedByKey cmp (cond b (row ∷ filter test rows) (filter test rows))
       go true further = rise-cons cmp row (filter test rows) (IsBelow-filter row.0 test rows (rise_head cmp row rows rise)) further
       go false further = further
+
+module _ {K V : Type 0} (cmp : K → K → Ordering) where
+  IsBelow-drop : (low : K) (n : ℕ) (rows : List (K × V)) → IsBelow cmp low rows → IsBelow cmp low (drop n rows)
+  IsBelow-drop low zero rows below = below
+  IsBelow-drop low (suc n) [] below = tt
+  IsBelow-drop low (suc n) (row ∷ rows) below = IsBelow-drop low n rows below.1
+
+  IsBelow-remove_range : (low : K) (start end : ℕ) (rows : List (K × V)) → start ≤ end → IsBelow cmp low rows → IsBelow cmp low (remove_range rows start end)
+  IsBelow-remove_range low zero end rows order below = IsBelow-drop low end rows below
+  IsBelow-remove_range low (suc start) zero rows order below = absurd (omega arith)
+  IsBelow-remove_range low (suc start) (suc end) [] order below = tt
+  IsBelow-remove_range low (suc start) (suc end) (row ∷ rows) order below = (below.0, IsBelow-remove_range low start end rows (omega arith) below.1)
+
+  rise-drop : (n : ℕ) (rows : List (K × V)) → SortedByKey cmp rows → SortedByKey cmp (drop n rows)
+  rise-drop zero rows rise = rise
+  rise-drop (suc n) [] rise = rise
+  rise-drop (suc n) (row ∷ rows) rise = rise-drop n rows (rise_tail cmp row rows rise)
+
+  -- the rows that rise without those from one place to another
+  pub rise-remove_range : (start end : ℕ) (rows : List (K × V)) → start ≤ end → SortedByKey cmp rows → SortedByKey cmp (remove_range rows start end)
+  rise-remove_range zero end rows order rise = rise-drop end rows rise
+  rise-remove_range (suc start) zero rows order rise = absurd (omega arith)
+  rise-remove_range (suc start) (suc end) [] order rise = rise
+  rise-remove_range (suc start) (suc end) (row ∷ rows) order rise =
+      rise-cons cmp row (remove_range rows start end) (IsBelow-remove_range row.0 start end rows (omega arith) (rise_head cmp row rows rise))
+      (rise-remove_range start end rows (omega arith) (rise_tail cmp row rows rise))

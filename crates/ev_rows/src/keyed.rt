@@ -145,7 +145,6 @@ impl<K: Ord, V> Keyed<K, V> {
         ensures within { result.1 ≤ length self.now.rows }
         ensures outside { filter (λ row. is_outside K.cmp low.now high.now row.0) self.now.rows
             ≡ remove_range self.now.rows result.0 result.1 }
-        ensures rise { SortedByKey K.cmp self.now.rows }
     {
         let start = self.rows.partition_point(|row| row.0.cmp(low).is_lt());
         let end = self.rows.partition_point(|row| row.0.cmp(high).is_le());
@@ -222,8 +221,18 @@ impl<K: Ord + Drop, V: Drop> Keyed<K, V> {
         ensures room { self.old.spare ≤ self.new.spare }
     {
         let (start, end) = self.places_between(low, high);
-        self.rows.drain(start..end);
+        self.drop_range(start, end);
         (end - start) as u64
+    }
+
+    /// Takes out the rows from the place `start` on, up to the place `end`.
+    pub fn drop_range(&mut self, start: usize, end: usize)
+        requires order { start ≤ end }
+        requires within { end ≤ length self.old.rows }
+        ensures rows { self.new.rows ≡ remove_range self.old.rows start end }
+        ensures room { self.old.spare ≤ self.new.spare }
+    {
+        self.rows.drain(start..end);
     }
 
     /// Keeps the rows that pass the test.

@@ -1,2 +1,2 @@
 pub mod EachMore
-pub mod ReceiptRanges
+pub mod Readers

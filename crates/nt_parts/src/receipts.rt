@@ -1,9 +1,7 @@
 //! The users who have a message.
 
 ghost use Rattle.std.specs.Prelude.{◌≡◌, [], ◌∷◌, ◌++◌, filter, map, IfOk};
-ghost use Rattle.std.specs.BTreeMap.{is_at};
-ghost use Rattle.ev_rows.specs.Rows.{SortedByKey, keys_of};
-ghost use Rattle.ev_base.specs.Orders.{message_cmp, message_user_cmp};
+ghost use Rattle.ev_rows.specs.Rows.{keys_of};
 ghost use Rattle.ev_types.specs.declared.notice.Audience.{Audience};
 ghost use Rattle.nt_rules.specs.Parts.{readers, to};
 ghost use Rattle.zr_types.specs.Visibility.{sees_message};
@@ -36,8 +34,7 @@ pub fn readers(alloc: Global, realm: &Realm, message: MessageId) -> Result<Vec<U
     ensures { IfOk result
         (λ users. users.items ≡ keys_of (readers realm.now.state.tables message)) }
 {
-    let receipts = receipts_for(realm.posts().receipts_rows(), message);
-    readers_among(alloc, realm, message, receipts)
+    readers_among(alloc, realm, message, realm.posts().receipts_of(&message))
 }
 
 fn readers_among(
@@ -55,15 +52,4 @@ fn readers_among(
             .filter(|user| realm.sees_message(*user, message))
             .collect(alloc)?,
     )
-}
-
-/// The receipts for a message. They stand side by side, since receipts rise by message first.
-pub fn receipts_for(receipts: &[ReceiptRow], message: MessageId) -> &[ReceiptRow]
-    requires { SortedByKey message_user_cmp receipts.now }
-    ensures { result.now ≡ filter (λ row. is_at (message_cmp message) row.0.0) receipts.now }
-{
-    let from = receipts.partition_point(|row| row.0.0.0 < message.0);
-    let rest = &receipts[from..];
-    let count = rest.partition_point(|row| row.0.0.0 <= message.0);
-    &rest[..count]
 }

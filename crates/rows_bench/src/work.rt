@@ -46,8 +46,8 @@ pub fn merged(alloc: Global, mut posts: Posts) -> Result<Posts, NoMemory> {
     Ok(posts)
 }
 
-/// All but those of one message, as its deletion leaves them.
+/// All but those for one message, as its deletion leaves them.
 pub fn without_a_message(mut posts: Posts) -> Posts {
-    posts.receipts_keep(|row| row.0.0.0 != 50);
+    posts.receipts_drop_of(&MessageId(50));
     posts
 }

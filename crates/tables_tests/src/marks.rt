@@ -67,20 +67,21 @@ fn reactions_are_put_and_read(rt: HostRuntime) -> Result<(), Fail> {
     Ok(())
 }
 
-// Puts two reactions, and keeps those to messages below a number: how many there are then.
-fn kept_below(alloc: Global, message: u32) -> Result<usize, Fail> {
+// Puts two reactions, and drops those to a message: how many it had, and how many there are then.
+fn without(alloc: Global, message: u32) -> Result<(usize, usize), Fail> {
     let mut table = Marks::new(alloc);
     put_two(&mut table, alloc)?;
-    table.reactions_keep(|row| row.0.0.0 < message);
-    Ok(table.reactions_rows().len())
+    let had = table.reactions_of(&MessageId(message)).len();
+    table.reactions_drop_of(&MessageId(message));
+    Ok((had, table.reactions_rows().len()))
 }
 
 #[test]
-fn reactions_that_pass_a_test_stay(rt: HostRuntime) -> Result<(), Fail> {
+fn reactions_to_a_message_are_dropped(rt: HostRuntime) -> Result<(), Fail> {
     same(
         &rt,
-        (kept_below(rt.alloc(), 2)?, kept_below(rt.alloc(), 1)?),
-        (2, 0),
+        (without(rt.alloc(), 2)?, without(rt.alloc(), 1)?),
+        ((0, 2), (2, 0)),
     );
     Ok(())
 }

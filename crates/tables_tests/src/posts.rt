@@ -185,22 +185,22 @@ fn a_receipt_is_changed_and_replaced(rt: HostRuntime) -> Result<(), Fail> {
     Ok(())
 }
 
-// Writes four receipts, keeps those of message 7, drops one, and then all: how many there were, the
+// Writes four receipts, drops those for message 1, drops one, and then all: how many there were, the
 // one that was dropped, how many more went, and how many stay.
 fn receipts_dropped(
     table: &mut Posts,
     alloc: Global,
 ) -> Result<(usize, Option<Receipt>, u64, usize), Fail> {
     put_four(table, alloc)?;
-    table.receipts_keep(|row| row.0.0.0 == 7);
-    let kept = table.receipts_rows().len();
+    table.receipts_drop_of(&MessageId(1));
+    let kept = table.receipts_of(&MessageId(7)).len();
     let one = table.receipts_drop_key(&receipt_key(2, 7));
     let more = table.receipts_drop_between(&receipt_key(1, 7), &receipt_key(3, 7));
     Ok((kept, one, more, table.receipts_rows().len()))
 }
 
 #[test]
-fn receipts_are_kept_and_dropped(rt: HostRuntime) -> Result<(), Fail> {
+fn receipts_are_dropped(rt: HostRuntime) -> Result<(), Fail> {
     let found = receipts_dropped(&mut Posts::new(rt.alloc()), rt.alloc())?;
     same(&rt, found, (3, Some(STARRED), 2, 0));
     Ok(())

@@ -1,12 +1,11 @@
 //! The table of marks.
 
-ghost use Rattle.std.specs.Prelude.{◌≡◌, ◌≤◌, ◌+◌, ℕ, Bool, List, [], ⊤, length, filter, if◌then◌else◌, is_some, IfOk, IsNone, IsOk, OnOk, option_copied};
-ghost use Rattle.std.specs.Fn.{CalledAt, ComputesKey};
-ghost use Rattle.std.specs.List.Retain.{IsFiltered};
+ghost use Rattle.std.specs.Prelude.{◌≡◌, ◌==◌, ◌≤◌, ◌+◌, ◌-◌, [], drop, length, filter, not, take, if◌then◌else◌, is_some, IsNone, IsOk, OnOk, option_copied};
+ghost use Rattle.std.specs.List.{remove_range};
 ghost use Rattle.std.specs.Map.{remove_entry};
 ghost use Rattle.std.specs.BTreeMap.{insert_entry, is_at};
 ghost use Rattle.ev_rows.specs.Rows.{SortedByKey, is_outside, row_at};
-ghost use Rattle.ev_base.specs.Orders.{reaction_cmp};
+ghost use Rattle.ev_base.specs.Orders.{message_cmp, reaction_cmp};
 
 use ev_base::{Keyed, MessageId, NoMemory, Text, UserId};
 use std::alloc::Global;
@@ -36,15 +35,6 @@ impl Marks {
         Marks {
             reactions: Keyed::new(alloc),
         }
-    }
-
-    /// A table with the same rows.
-    pub fn copy(&self) -> Result<Marks, NoMemory>
-        ensures { IfOk result (λ copy. copy.reactions.rows ≡ self.now.reactions.rows) }
-    {
-        Ok(Marks {
-            reactions: self.reactions.clone()?,
-        })
     }
 
     pub fn reactions_get(&self, key: &(MessageId, UserId, Text)) -> Option<&()>
@@ -106,14 +96,37 @@ impl Marks {
         self.reactions.drop_between(low, high)
     }
 
-    /// Keeps the reactions that pass the test.
-    pub fn reactions_keep<F: FnMut(&((MessageId, UserId, Text), ())) -> bool>(&mut self, test: F)
-        requires { F.IsAlwaysCallable test }
-        ensures rows { (p : (MessageId × UserId × List ℕ) × ⊤ → Bool) → ComputesKey F.FnMut p test
-            → self.new.reactions.rows ≡ filter p self.old.reactions.rows }
-        ensures calls { IsFiltered (CalledAt F.FnMut) test self.old.reactions.rows self.new.reactions.rows }
+    /// The reactions to a message. They stand side by side, since reactions rise by message first.
+    pub fn reactions_of(&self, message: &MessageId) -> &[((MessageId, UserId, Text), ())]
+        ensures { result.now
+            ≡ filter (λ row. is_at (message_cmp message.now) row.0.0) self.now.reactions.rows }
+    {
+        let (start, end) = self.places_of(message);
+        &self.reactions.rows()[start..end]
+    }
+
+    /// Takes out the reactions to a message.
+    pub fn reactions_drop_of(&mut self, message: &MessageId)
+        ensures rows { self.new.reactions.rows
+            ≡ filter (λ row. not (row.0.0.0 == message.now.0)) self.old.reactions.rows }
         ensures room { self.old.reactions.spare ≤ self.new.reactions.spare }
     {
-        self.reactions.keep(test);
+        let (start, end) = self.places_of(message);
+        self.reactions.drop_range(start, end);
+    }
+
+    // Where the reactions to a message begin, and where they end.
+    fn places_of(&self, message: &MessageId) -> (usize, usize)
+        ensures order { result.0 ≤ result.1 }
+        ensures within { result.1 ≤ length self.now.reactions.rows }
+        ensures between { take (result.1 - result.0) (drop result.0 self.now.reactions.rows)
+            ≡ filter (λ row. is_at (message_cmp message.now) row.0.0) self.now.reactions.rows }
+        ensures outside { remove_range self.now.reactions.rows result.0 result.1
+            ≡ filter (λ row. not (row.0.0.0 == message.now.0)) self.now.reactions.rows }
+    {
+        let rows = self.reactions.rows();
+        let start = rows.partition_point(|row| row.0.0.0 < message.0);
+        let end = rows.partition_point(|row| row.0.0.0 <= message.0);
+        (start, end)
     }
 }

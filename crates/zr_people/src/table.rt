@@ -1,6 +1,6 @@
 //! The table of people.
 
-ghost use Rattle.std.specs.Prelude.{◌≡◌, ◌≤◌, ◌+◌, [], length, filter, if◌then◌else◌, is_some, IfOk, IsNone, IsOk, OnOk, option_copied};
+ghost use Rattle.std.specs.Prelude.{◌≡◌, ◌≤◌, ◌+◌, [], length, filter, if◌then◌else◌, is_some, IsNone, IsOk, OnOk, option_copied};
 ghost use Rattle.std.specs.Option.{option_copied_mut};
 ghost use Rattle.std.specs.Borrow.{sem};
 ghost use Rattle.std.specs.Map.{remove_entry};
@@ -42,17 +42,6 @@ impl Users {
             realm,
             users: Keyed::new(alloc),
         }
-    }
-
-    /// A table with the same rows.
-    pub fn copy(&self) -> Result<Users, NoMemory>
-        ensures realm { IfOk result (λ copy. copy.realm ≡ self.now.realm) }
-        ensures users { IfOk result (λ copy. copy.users.rows ≡ self.now.users.rows) }
-    {
-        Ok(Users {
-            realm: self.realm.clone()?,
-            users: self.users.clone()?,
-        })
     }
 
     pub fn realm_row(&self) -> &RealmRow

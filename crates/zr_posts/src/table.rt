@@ -1,10 +1,9 @@
 //! The table of posts.
 
-ghost use Rattle.std.specs.Prelude.{◌≡◌, ◌≤◌, ◌+◌, Bool, [], length, filter, if◌then◌else◌, is_some, IfOk, IsNone, IsOk, OnOk, option_copied, vec_len};
+ghost use Rattle.std.specs.Prelude.{◌≡◌, ◌==◌, ◌≤◌, ◌+◌, ◌-◌, [], drop, length, filter, not, take, if◌then◌else◌, is_some, IsNone, IsOk, OnOk, option_copied, vec_len};
 ghost use Rattle.std.specs.Option.{option_copied_mut};
 ghost use Rattle.std.specs.Borrow.{sem};
-ghost use Rattle.std.specs.Fn.{CalledAt, ComputesKey};
-ghost use Rattle.std.specs.List.Retain.{IsFiltered};
+ghost use Rattle.std.specs.List.{remove_range};
 ghost use Rattle.std.specs.Map.{remove_entry};
 ghost use Rattle.std.specs.BTreeMap.{insert_entry, is_at};
 ghost use Rattle.ev_rows.specs.Rows.{SortedByKey, is_outside, row_at, with_rows};
@@ -43,17 +42,6 @@ impl Posts {
             messages: Keyed::new(alloc),
             receipts: Keyed::new(alloc),
         }
-    }
-
-    /// A table with the same rows.
-    pub fn copy(&self) -> Result<Posts, NoMemory>
-        ensures messages { IfOk result (λ copy. copy.messages.rows ≡ self.now.messages.rows) }
-        ensures receipts { IfOk result (λ copy. copy.receipts.rows ≡ self.now.receipts.rows) }
-    {
-        Ok(Posts {
-            messages: self.messages.clone()?,
-            receipts: self.receipts.clone()?,
-        })
     }
 
     pub fn messages_get(&self, key: &MessageId) -> Option<&Message>
@@ -203,15 +191,38 @@ impl Posts {
         self.receipts.drop_between(low, high)
     }
 
-    /// Keeps the receipts that pass the test.
-    pub fn receipts_keep<F: FnMut(&((MessageId, UserId), Receipt)) -> bool>(&mut self, test: F)
-        requires { F.IsAlwaysCallable test }
-        ensures rows { (p : (MessageId × UserId) × Receipt → Bool) → ComputesKey F.FnMut p test
-            → self.new.receipts.rows ≡ filter p self.old.receipts.rows }
-        ensures calls { IsFiltered (CalledAt F.FnMut) test self.old.receipts.rows self.new.receipts.rows }
+    /// The receipts for a message. They stand side by side, since receipts rise by message first.
+    pub fn receipts_of(&self, message: &MessageId) -> &[((MessageId, UserId), Receipt)]
+        ensures { result.now
+            ≡ filter (λ row. is_at (message_cmp message.now) row.0.0) self.now.receipts.rows }
+    {
+        let (start, end) = self.places_of(message);
+        &self.receipts.rows()[start..end]
+    }
+
+    /// Takes out the receipts for a message.
+    pub fn receipts_drop_of(&mut self, message: &MessageId)
+        ensures rows { self.new.receipts.rows
+            ≡ filter (λ row. not (row.0.0.0 == message.now.0)) self.old.receipts.rows }
         ensures room { self.old.receipts.spare ≤ self.new.receipts.spare }
         ensures messages { self.new.messages ≡ self.old.messages }
     {
-        self.receipts.keep(test);
+        let (start, end) = self.places_of(message);
+        self.receipts.drop_range(start, end);
+    }
+
+    // Where the receipts for a message begin, and where they end.
+    fn places_of(&self, message: &MessageId) -> (usize, usize)
+        ensures order { result.0 ≤ result.1 }
+        ensures within { result.1 ≤ length self.now.receipts.rows }
+        ensures between { take (result.1 - result.0) (drop result.0 self.now.receipts.rows)
+            ≡ filter (λ row. is_at (message_cmp message.now) row.0.0) self.now.receipts.rows }
+        ensures outside { remove_range self.now.receipts.rows result.0 result.1
+            ≡ filter (λ row. not (row.0.0.0 == message.now.0)) self.now.receipts.rows }
+    {
+        let rows = self.receipts.rows();
+        let start = rows.partition_point(|row| row.0.0.0 < message.0);
+        let end = rows.partition_point(|row| row.0.0.0 <= message.0);
+        (start, end)
     }
 }

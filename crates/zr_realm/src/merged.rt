@@ -37,13 +37,6 @@ impl ReceiptBuffer {
         }
     }
 
-    /// Another buffer without room.
-    pub fn copy(&self) -> ReceiptBuffer
-        ensures room { result ≡ 0 }
-    {
-        ReceiptBuffer::new(*self.rows.allocator())
-    }
-
     pub fn reserve(&mut self, more: usize) -> Result<(), NoMemory>
         ensures room { OnOk result (more ≤ self.new) }
     {

@@ -125,8 +125,8 @@ pub fn delete_message(posts: &mut Posts, marks: &mut Marks, message: MessageId)
         ≡ filter (λ row. not (row.0.0.0 == message.0)) marks.old.reactions.rows }
 {
     posts.messages_drop_key(&message);
-    posts.receipts_keep(|row| row.0.0.0 != message.0);
-    marks.reactions_keep(|row| row.0.0.0 != message.0);
+    posts.receipts_drop_of(&message);
+    marks.reactions_drop_of(&message);
 }
 
 /// Gives a flag of a user's receipts for these messages a value.

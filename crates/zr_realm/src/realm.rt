@@ -96,18 +96,6 @@ impl Realm {
         }))
     }
 
-    /// A realm in the same state. It need not have room for more rows.
-    pub fn copy(&self) -> Result<Realm, NoMemory>
-        ensures { IfOk result (λ realm. realm.state ≡ self.now.state) }
-    {
-        Ok(Realm {
-            tables: self.tables.copy()?,
-            commits: self.commits,
-            sent: self.sent,
-            text_bytes: self.text_bytes,
-        })
-    }
-
     /// Makes room for a change that a check made.
     pub fn reserve(&mut self, change: &Change) -> Result<(), NoMemory>
         ensures state { self.new.state ≡ self.old.state }

@@ -45,19 +45,6 @@ pub struct Author {
 }
 
 impl RealmTables {
-    /// The same rows. There need not be room for more.
-    pub fn copy(&self) -> Result<RealmTables, NoMemory>
-        ensures { IfOk result (λ copy. tables_in copy ≡ tables_in self.now) }
-    {
-        Ok(RealmTables {
-            people: self.people.copy()?,
-            streams: self.streams.copy()?,
-            posts: self.posts.copy()?,
-            marks: self.marks.copy()?,
-            merged: self.merged.copy(),
-        })
-    }
-
     /// Makes room for these rows.
     pub fn reserve(&mut self, rows: Rooms) -> Result<(), NoMemory>
         ensures tables { tables_in self.new ≡ tables_in self.old }

@@ -1,6 +1,6 @@
 //! The table of streams.
 
-ghost use Rattle.std.specs.Prelude.{◌≡◌, ◌≤◌, ◌+◌, [], length, filter, if◌then◌else◌, is_some, IfOk, IsNone, IsOk, OnOk, option_copied};
+ghost use Rattle.std.specs.Prelude.{◌≡◌, ◌≤◌, ◌+◌, [], length, filter, if◌then◌else◌, is_some, IsNone, IsOk, OnOk, option_copied};
 ghost use Rattle.std.specs.Option.{option_copied_mut};
 ghost use Rattle.std.specs.Borrow.{sem};
 ghost use Rattle.std.specs.Map.{remove_entry};
@@ -41,18 +41,6 @@ impl Streams {
             streams: Keyed::new(alloc),
             subscriptions: Keyed::new(alloc),
         }
-    }
-
-    /// A table with the same rows.
-    pub fn copy(&self) -> Result<Streams, NoMemory>
-        ensures streams { IfOk result (λ copy. copy.streams.rows ≡ self.now.streams.rows) }
-        ensures subscriptions { IfOk result
-            (λ copy. copy.subscriptions.rows ≡ self.now.subscriptions.rows) }
-    {
-        Ok(Streams {
-            streams: self.streams.clone()?,
-            subscriptions: self.subscriptions.clone()?,
-        })
     }
 
     pub fn streams_get(&self, key: &StreamId) -> Option<&Stream>
