@@ -1,3 +1,4 @@
 pub mod SenderLemmas
 pub mod CheckLemmas
 pub mod FoundRows
+pub mod MovingLemmas

@@ -1,6 +1,6 @@
 //! Where messages stand, and which of them move.
 
-ghost use Rattle.std.specs.Prelude.{◌≡◌, [], IfOk, map, replicate};
+ghost use Rattle.std.specs.Prelude.{◌≡◌, [], IfOk, filter, map, replicate};
 ghost use Rattle.std.specs.Option.{option_map_or};
 ghost use Rattle.zr_types.specs.Tables.{message_at};
 ghost use Rattle.zr_types.specs.Commands.{moves_with, moving, same_stream_place, stream_of_place, target_of, topic_moved, topic_of_place};
@@ -116,11 +116,27 @@ pub fn moving(
     let Some(row) = realm.message(message) else {
         return Ok(Listed::from_vec(Vec::new(alloc)));
     };
-    let ids = realm
-        .posts()
-        .messages_rows()
+    let rows = realm.posts().messages_rows();
+    match mode {
+        Mode::One => Ok(Listed::from_vec(vec![in alloc; message.0]?)),
+        _ => all_moving(alloc, rows, message, mode, &row.place),
+    }
+}
+
+// The numbers of those messages that move with one at a place.
+fn all_moving(
+    alloc: Global,
+    rows: &[(MessageId, Message)],
+    message: MessageId,
+    mode: Mode,
+    at: &Place,
+) -> Result<Listed<u32>, NoMemory>
+    ensures { IfOk result (λ ids. ids ≡ map (λ row. row.0.0)
+        (filter (moves_with mode message at.now) rows.now)) }
+{
+    let ids = rows
         .iter()
-        .filter(|other| moves_with(mode, message, &row.place, other))
+        .filter(|other| moves_with(mode, message, at, other))
         .map(|other| other.0.0)
         .collect(alloc)?;
     Ok(Listed::from_vec(ids))

@@ -1,2 +1,2 @@
 pub mod EachMore
-pub mod Readers
+pub mod SeenReceipts

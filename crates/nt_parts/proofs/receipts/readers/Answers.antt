@@ -5,7 +5,7 @@ use Rattle.ev_base.specs.declared.ids.UserId.{UserId}
 use Rattle.ev_base.specs.declared.ids.MessageId.{MessageId}
 use Rattle.zr_types.specs.declared.posts.Receipt.{Receipt}
 use Rattle.zr_types.specs.Visibility.{sees_message}
-use Rattle.nt_parts.proofs.Readers.{readers_among}
+use Rattle.nt_parts.proofs.SeenReceipts.{readers_among}
 use Rattle.nt_parts.proofs.receipts.readers.Goals as goal
 
 pub returns : goal.returns
