@@ -1,4 +1,5 @@
 mod Checked
+mod Movers
 mod OneRow
 mod OneStream
 mod Pieces

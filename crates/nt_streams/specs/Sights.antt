@@ -1,5 +1,5 @@
 -- The parts of a turn as they are made: who hears them, and what each hears of its own.
-use Rattle.std.specs.Prelude.{Bool, ◌&&◌, if◌then◌else◌, List, [], ◌∷◌, ◌++◌, bytes_eq, Option, Some, is_some, option_map, ⊤}
+use Rattle.std.specs.Prelude.{◌≡◌, Bool, ◌&&◌, if◌then◌else◌, List, [], ◌∷◌, ◌++◌, bytes_eq, Option, None, Some, is_some, option_map, ⊤}
 use Rattle.ev_base.specs.declared.ids.UserId.{UserId}
 use Rattle.ev_base.specs.declared.ids.StreamId.{StreamId}
 use Rattle.ev_base.specs.declared.ids.MessageId.{MessageId}
@@ -22,15 +22,17 @@ use Rattle.nt_streams.specs.declared.own.Own.TheVariants as own
 use Rattle.nt_streams.specs.declared.turn.Turn.{Turn}
 use Rattle.zr_types.specs.declared.people.User.{User}
 use Rattle.zr_types.specs.declared.posts.Message.{Message}
+use Rattle.zr_types.specs.declared.streams.Stream.{Stream}
 use Rattle.zr_types.specs.Tables.{Tables, receipt_of}
 use Rattle.zr_types.specs.Visibility.{is_active_user, is_subscribed}
 use Rattle.zw_views.specs.Views.{shown_message}
 
--- which of a user's own things go with which sight
-abbrev pub sight_of : Own → Sight
-sight_of own.Subscription = sight.Found
-sight_of own.Messages = sight.Found
-sight_of own.Gone = sight.Lost
+-- the same users see a stream by both rows
+abbrev pub IsAsOpen : Option Stream → Option Stream → Type 0
+IsAsOpen None None = Unit {0}
+IsAsOpen None (Some new) = ⊥
+IsAsOpen (Some old) None = ⊥
+IsAsOpen (Some old) (Some new) = (old.archived ≡ new.archived) × (old.privacy ≡ new.privacy)
 
 module _ (tables : Tables) where
   -- what a message gives to those in a stream that a user has a receipt for
@@ -61,8 +63,8 @@ module _ (tables : Tables) where
     own_events own.Messages = found_messages tables turn
     own_events own.Gone = gone
 
-    abbrev pub own_part : Own → UserId × User → List Part
-    own_part of row = if has_sight (sight_of of) row.0 then to (Only (row.0 ∷ [])) (own_events of row.0) else []
+    abbrev pub own_part : Own → UserId → List Part
+    own_part of user = to (Only (user ∷ [])) (own_events of user)
 
     -- the part of the user's subscription, and of the subscribers for those who keep the stream
     abbrev pub own_change_part : List Part

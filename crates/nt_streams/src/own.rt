@@ -3,9 +3,9 @@
 ghost use Rattle.std.specs.Prelude.{◌≡◌, ◌++◌, flat_map, IfOk};
 ghost use Rattle.zw_views.specs.Views.{shown_subscription};
 ghost use Rattle.nt_streams.specs.StreamParts.{found_messages, found_subscription, is_in, messages_in};
-ghost use Rattle.nt_streams.specs.Sights.{gone, message_in, own_events, own_part, sight_of};
+ghost use Rattle.nt_streams.specs.Sights.{gone, message_in, own_events, own_part};
 
-use crate::sight::{Sight, has_sight, subscription_after};
+use crate::sight::subscription_after;
 use crate::turn::Turn;
 use ev_base::{Keyed, Listed, MessageId, NoMemory, Place, StreamId, UserId};
 use ev_laws::push_one_of;
@@ -13,7 +13,7 @@ use ev_types::{Event, Part, ShownMessage, ShownSubscription};
 use nt_parts::{keys, push_arrived, push_to_one};
 use std::alloc::Global;
 use zr_realm::Realm;
-use zr_types::{Message, Subscription, User};
+use zr_types::{Message, Subscription};
 use zr_view::{shown_message, sifted};
 
 /// What is a user's own of a stream that it finds or loses.
@@ -27,18 +27,19 @@ pub enum Own {
     Gone,
 }
 
-/// Tells each user who finds or loses the stream of its own.
+/// Tells each of these users of its own.
 pub fn push_each_own(
     realm: &Realm,
     turn: &Turn,
     own: Own,
+    users: &[UserId],
     parts: &mut Vec<Part>,
 ) -> Result<(), NoMemory>
     ensures { IfOk result (λ _. parts.new.items ≡ parts.old.items
-        ++ flat_map (own_part realm.now.state.tables turn.now own) realm.now.state.tables.users) }
+        ++ flat_map (own_part realm.now.state.tables turn.now own) users.now) }
 {
-    for row in realm.people().users_rows() {
-        push_own(realm, turn, own, row, parts)?;
+    for user in users {
+        push_own(realm, turn, own, *user, parts)?;
     }
     Ok(())
 }
@@ -47,27 +48,14 @@ fn push_own(
     realm: &Realm,
     turn: &Turn,
     own: Own,
-    row: &(UserId, User),
+    user: UserId,
     parts: &mut Vec<Part>,
 ) -> Result<(), NoMemory>
     ensures { IfOk result (λ _. parts.new.items
-        ≡ parts.old.items ++ own_part realm.now.state.tables turn.now own row.now) }
+        ≡ parts.old.items ++ own_part realm.now.state.tables turn.now own user) }
 {
-    let user = row.0;
-    if !has_sight(realm, turn, sight_of(own), user) {
-        return Ok(());
-    }
     let events = own_events(*parts.allocator(), realm, turn, own, user)?;
     push_to_one(parts, user, events)
-}
-
-fn sight_of(own: Own) -> Sight
-    ensures { result ≡ sight_of own }
-{
-    match own {
-        Own::Subscription | Own::Messages => Sight::Found,
-        Own::Gone => Sight::Lost,
-    }
 }
 
 fn own_events(

@@ -38,10 +38,13 @@ fn push_finder_parts(realm: &Realm, turn: &Turn, parts: &mut Vec<Part>) -> Resul
 {
     let alloc = *parts.allocator();
     let users = those(alloc, realm, turn, Sight::Found)?;
+    if users.is_empty() {
+        return Ok(());
+    }
     push_told(&users, found(alloc, turn)?, parts)?;
-    push_each_own(realm, turn, Own::Subscription, parts)?;
+    push_each_own(realm, turn, Own::Subscription, &users, parts)?;
     push_told(&users, found_peers(alloc, realm, turn)?, parts)?;
-    push_each_own(realm, turn, Own::Messages, parts)
+    push_each_own(realm, turn, Own::Messages, &users, parts)
 }
 
 // The subscribers of a stream that is found.
@@ -101,11 +104,11 @@ fn push_loser_parts(realm: &Realm, turn: &Turn, parts: &mut Vec<Part>) -> Result
         ≡ parts.old.items ++ loser_parts realm.now.state.tables turn.now) }
 {
     let alloc = *parts.allocator();
-    let users = those(alloc, realm, turn, Sight::Lost)?;
-    push_told(&users, deleted(alloc, turn)?, parts)?;
+    let losers = those(alloc, realm, turn, Sight::Lost)?;
+    push_told(&losers, deleted(alloc, turn)?, parts)?;
     let users = those(alloc, realm, turn, Sight::Left)?;
     push_told(&users, left(alloc, turn)?, parts)?;
-    push_each_own(realm, turn, Own::Gone, parts)
+    push_each_own(realm, turn, Own::Gone, &losers, parts)
 }
 
 fn deleted(alloc: Global, turn: &Turn) -> Result<Vec<Event>, NoMemory>

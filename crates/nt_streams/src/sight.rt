@@ -1,18 +1,19 @@
 //! Who finds, keeps and loses the stream of a turn.
 
-ghost use Rattle.std.specs.Prelude.{◌≡◌, ◌&&◌, IfOk, is_some, not, option_copied};
-ghost use Rattle.ev_rows.specs.Rows.{keys_of};
+ghost use Rattle.std.specs.Prelude.{◌≡◌, ◌&&◌, [], ◌∷◌, if◌then◌else◌, IfOk, is_some, not, option_copied, true, ◌≢◌};
+ghost use Rattle.ev_rows.specs.Rows.{SortedByKey, keys_of};
+ghost use Rattle.ev_base.specs.Orders.{user_cmp};
 ghost use Rattle.zr_types.specs.Visibility.{role_of};
 ghost use Rattle.nt_streams.specs.StreamParts.{those};
 ghost use Rattle.nt_streams.specs.Turned.{peers_after, sees, subscription_after};
-ghost use Rattle.nt_streams.specs.Sights.{has_sight, peer_in, user_in};
+ghost use Rattle.nt_streams.specs.Sights.{IsAsOpen, has_sight, peer_in, user_in};
 
 use crate::turn::Turn;
 use ev_base::{NoMemory, Role, UserId};
 use nt_parts::{keys, sees_by};
 use std::alloc::Global;
 use zr_realm::Realm;
-use zr_types::{Subscription, User};
+use zr_types::{Stream, Subscription, User};
 use zr_view::sifted;
 
 /// How a turn changes a user's sight of its stream.
@@ -36,6 +37,66 @@ pub fn those(
         ≡ those realm.now.state.tables (has_sight realm.now.state.tables turn.now sight)) }
 {
     let rows = realm.people().users_rows();
+    match sight {
+        Sight::Kept => all_those(alloc, realm, turn, sight, rows),
+        _ => movers(alloc, realm, turn, sight, rows),
+    }
+}
+
+// The users who find or lose the stream. Where its row stays as open as it was, that is the turn's user
+// at most.
+fn movers(
+    alloc: Global,
+    realm: &Realm,
+    turn: &Turn,
+    sight: Sight,
+    rows: &[(UserId, User)],
+) -> Result<Vec<UserId>, NoMemory>
+    requires users { rows.now ≡ realm.now.state.tables.users }
+    requires rise { SortedByKey user_cmp rows.now }
+    requires moves { sight ≢ Sight.Kept }
+    ensures { IfOk result (λ users. users.items
+        ≡ those realm.now.state.tables (has_sight realm.now.state.tables turn.now sight)) }
+{
+    if !stays_as_open(realm.stream(turn.stream), turn.row.as_ref()) {
+        return all_those(alloc, realm, turn, sight, rows);
+    }
+    only(alloc, turn.user, has_sight(realm, turn, sight, turn.user))
+}
+
+// The user, or nobody.
+fn only(alloc: Global, user: UserId, is_there: bool) -> Result<Vec<UserId>, NoMemory>
+    ensures { IfOk result (λ users. users.items ≡ if is_there then user ∷ [] else []) }
+{
+    if is_there {
+        return Ok(vec![in alloc; user]?);
+    }
+    Ok(Vec::new(alloc))
+}
+
+// Whether the same users see the stream by both rows.
+fn stays_as_open(old: Option<&Stream>, new: Option<&Stream>) -> bool
+    ensures { result ≡ true → IsAsOpen (option_copied old.entry) (option_copied new.entry) }
+{
+    match (old, new) {
+        (None, None) => true,
+        (Some(old), Some(new)) => old.archived == new.archived && old.privacy == new.privacy,
+        _ => false,
+    }
+}
+
+fn all_those(
+    alloc: Global,
+    realm: &Realm,
+    turn: &Turn,
+    sight: Sight,
+    rows: &[(UserId, User)],
+) -> Result<Vec<UserId>, NoMemory>
+    requires users { rows.now ≡ realm.now.state.tables.users }
+    requires rise { SortedByKey user_cmp rows.now }
+    ensures { IfOk result (λ users. users.items
+        ≡ those realm.now.state.tables (has_sight realm.now.state.tables turn.now sight)) }
+{
     let users = sifted(alloc, rows, |row| Ok(user_in(realm, turn, sight, row)))?;
     keys(alloc, &users)
 }
