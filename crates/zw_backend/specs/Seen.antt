@@ -1,5 +1,5 @@
 -- What a pass has seen of a history, and which of its steps are the pass's own.
-use Rattle.std.specs.Prelude.{◌≡◌, ℕ, zero, suc, ◌+◌, ◌<◌, Bool, true, false, ◌||◌, ◌&&◌, List, [], ◌∷◌, ◌++◌, length, map}
+use Rattle.std.specs.Prelude.{◌≡◌, ℕ, zero, suc, ◌+◌, ◌<◌, ◌==◌, Bool, true, false, ◌||◌, ◌&&◌, if◌then◌else◌, List, [], ◌∷◌, ◌++◌, length, map}
 use Rattle.zw_traces.specs.declared.realm.RealmStep.{RealmStep}
 use Rattle.zw_traces.specs.declared.shard.ShardStep.{ShardStep}
 use Rattle.zw_traces.specs.Histories.{History, IsFedHistory, MayBeAsked}
@@ -143,3 +143,22 @@ pub record Joins (mine theirs joined : Seen) : Type 0 where
   pub realm : Meets mine.realm theirs.realm joined.realm
   pub shards : AllMeet mine.shards theirs.shards joined.shards
   pub fed : IsFedHistory (history_of joined)
+
+-- so many steps, each counted by a weight
+abbrev pub weigh : {S : Type 0} → (S → ℕ) → List S → ℕ
+weigh weight [] = 0
+weigh weight (step ∷ before) = weight step + weigh weight before
+
+-- however steps are weighed, a joined pass made those of both
+abbrev pub AddsUp : {S : Type 0} → Marked S → Marked S → Marked S → Type 0
+AddsUp {S} mine theirs joined = (weight : S → ℕ) → weigh weight (own_of joined) ≡ weigh weight (own_of mine) + weigh weight (own_of theirs)
+
+-- the pass made these steps of the realm, beside those that it had made
+abbrev pub realm_calls : Call → List RealmStep → List RealmStep
+realm_calls (of_realm step) before = step ∷ before
+realm_calls (of_shard shard step) before = before
+
+-- the same of the shard with an index
+abbrev pub shard_calls : ℕ → Call → List ShardStep → List ShardStep
+shard_calls shard (of_realm step) before = before
+shard_calls shard (of_shard other step) before = if shard == other then step ∷ before else before

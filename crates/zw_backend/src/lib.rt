@@ -4,6 +4,7 @@
 
 mod alone;
 mod backend;
+pub mod laws;
 mod lookup;
 
 pub use alone::Alone;
