@@ -57,6 +57,7 @@ impl World {
     pub fn shards(&self) -> u32
         ensures count { result ≡ length self.now.shards }
         ensures some { 1 ≤ result }
+        ensures few { result ≤ 16 }
     {
         self.shards.len() as u32
     }
@@ -73,6 +74,21 @@ impl World {
         ensures { result ≡ length self.now.realm.notices }
     {
         self.realm.commits()
+    }
+
+    /// The realm.
+    pub fn realm(&self) -> &RealmCore
+        ensures { result.now ≡ self.now.realm }
+    {
+        &self.realm
+    }
+
+    /// The realm, and the shards by their indices.
+    pub fn into_cores(self) -> (RealmCore, Vec<ShardCore>)
+        ensures realm { result.0 ≡ self.realm }
+        ensures shards { result.1.items ≡ self.shards }
+    {
+        (self.realm, self.shards)
     }
 
     /// The index of the shard that serves a user.

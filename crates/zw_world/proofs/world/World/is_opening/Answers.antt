@@ -1,4 +1,4 @@
-use Rattle.std.proofs.Common.{◌≡◌, ◌<◌, length, ap, sym, subst, ◌∙◌, arith}
+use Rattle.std.proofs.Common.{◌<◌, length, ap, sym, subst, ◌∙◌, arith}
 use Rattle.zw_traces.specs.Account.{is_opening_phase}
 use Rattle.zw_traces.specs.ShardTrace.{account_of, pushed_events}
 use Rattle.zw_traces.specs.Histories.{trace_at}

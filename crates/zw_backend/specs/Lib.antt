@@ -1,0 +1,3 @@
+pub mod Backends
+pub mod Seen
+pub mod SeenLaws
