@@ -1,7 +1,9 @@
 -- Members that are put into an object, one by one.
-use Rattle.std.proofs.Common.{◌≡◌, ◌≤◌, ℕ, suc, max, List, [], ◌∷◌, map, Bool, true, false, Some, bytes_eq, if◌then◌else◌, Ordering, Less, Equal, Greater, refl, sym, ap, ◌∙◌, arith, true≢false}
+use Rattle.std.proofs.Common.{IsUtf8, ◌≡◌, ◌≤◌, ℕ, suc, max, List, [], ◌∷◌, map, Bool, true, false, Some, bytes_eq, if◌then◌else◌, Ordering, Less, Equal, Greater, refl, sym, ap, ◌∙◌, arith, true≢false}
 use Rattle.std.proofs.lemmas.Cmp.{nat_list_cmp_total}
 use Rattle.std.proofs.lemmas.Slice.Eq.{bytes_eq-Decides}
+use Rattle.json.proofs.Printed.Utf8.{are_ascii, IsUtf8-are_ascii}
+use Rattle.std.specs.List.{AllByRecursion}
 use Rattle.std.specs.Ordering.{match_ordering, nat_cmp, ordering_reverse}
 use Rattle.std.specs.Cmp.Lexicographic.{slice_cmp}
 use Rattle.serde_json.specs.Data.{Data, array, object, Members, no_members, member, put, depth, items_depth, members_depth}
@@ -27,13 +29,13 @@ get-put name key value members = found (bytes_eq name key) name key value member
 
 -- ---- plain members, and one more
 
-plain_at : (o : Ordering) (k l : List ℕ) (d e : Data) (ms rest : Members) → IsPlain d → IsPlain e → MembersArePlain ms → MembersArePlain rest
+plain_at : (o : Ordering) (k l : List ℕ) (d e : Data) (ms rest : Members) → IsUtf8 k × IsPlain d → IsUtf8 l × IsPlain e → MembersArePlain ms → MembersArePlain rest
     → MembersArePlain (match_ordering o (member k d (member l e ms)) (member l d ms) (member l e rest))
 plain_at Less k l d e ms rest new old others after = (new, (old, others))
-plain_at Equal k l d e ms rest new old others after = (new, others)
+plain_at Equal k l d e ms rest new old others after = ((old.0, new.1), others)
 plain_at Greater k l d e ms rest new old others after = (old, after)
 
-plain-put : (k : List ℕ) (d : Data) (ms : Members) → IsPlain d → MembersArePlain ms → MembersArePlain (put k d ms)
+plain-put : (k : List ℕ) (d : Data) (ms : Members) → IsUtf8 k × IsPlain d → MembersArePlain ms → MembersArePlain (put k d ms)
 plain-put k d no_members new old = (new, tt)
 plain-put k d (member l e ms) new old = plain_at (slice_cmp nat_cmp k l) k l d e ms (put k d ms) new old.0 old.1 (plain-put k d ms new old.1)
 
@@ -92,25 +94,20 @@ ArePlainWithin n members = (MembersArePlain members × KeysRise members) × (mem
 pub within-none : (n : ℕ) → ArePlainWithin n no_members
 within-none n = ((tt, tt), omega arith)
 
-pub within-put : (n : ℕ) (key : List ℕ) (value : Data) (members : Members) → IsPlainWithin n value → ArePlainWithin n members → ArePlainWithin n (put key value members)
-within-put n key value members new old =
-    ((plain-put key value members new.0 old.0.0, rise-put key value members old.0.1), depth-put n key value members new.1 old.1)
+pub within-put : (n : ℕ) (key : List ℕ) (value : Data) (members : Members) → are_ascii key ≡ true → IsPlainWithin n value → ArePlainWithin n members → ArePlainWithin n (put key value members)
+within-put n key value members ascii new old =
+    ((plain-put key value members (IsUtf8-are_ascii key ascii, new.0) old.0.0, rise-put key value members old.0.1), depth-put n key value members new.1 old.1)
 
-pub within-object : (n : ℕ) (members : Members) → ArePlainWithin n members → IsPlainWithin (suc n) (object members)
-within-object n members plain = (plain.0, omega (arith, plain.1))
+pub within-object : (n : ℕ) (ms : Members) → ArePlainWithin n ms → IsPlainWithin (suc n) (object ms)
+within-object n ms plain = (plain.0, omega (arith, plain.1))
 
--- each of these
-abbrev pub Each : {X : Type 0} → (X → Type 0) → List X → Type 0
-Each P [] = Unit {0}
-Each P (x ∷ xs) = P x × Each P xs
-
-items-plain : {X : Type 0} (n : ℕ) (write : X → Data) (xs : List X) → Each (λ x. IsPlainWithin n (write x)) xs → ArePlain (items_of (map write xs)) × (items_depth (items_of (map write xs)) ≤ n)
+items-plain : {X : Type 0} (n : ℕ) (write : X → Data) (xs : List X) → AllByRecursion (λ x. IsPlainWithin n (write x)) xs → ArePlain (items_of (map write xs)) × (items_depth (items_of (map write xs)) ≤ n)
 items-plain n write [] each = (tt, omega arith)
 items-plain n write (x ∷ xs) each =
     let rest = items-plain n write xs each.1 in
     ((each.0.0, rest.0), omega (arith, each.0.1, rest.1))
 
-pub within-list : {X : Type 0} (n : ℕ) (write : X → Data) (xs : List X) → Each (λ x. IsPlainWithin n (write x)) xs → IsPlainWithin (suc n) (array (items_of (map write xs)))
+pub within-list : {X : Type 0} (n : ℕ) (write : X → Data) (xs : List X) → AllByRecursion (λ x. IsPlainWithin n (write x)) xs → IsPlainWithin (suc n) (array (items_of (map write xs)))
 within-list n write xs each = let all = items-plain n write xs each in (all.0, omega (arith, all.1))
 
 pub within-more : (n m : ℕ) (value : Data) → n ≤ m → IsPlainWithin n value → IsPlainWithin m value

@@ -101,7 +101,7 @@ mutual
 
   members_again : (ms found : Members) → MembersArePlain ms → of_members (members_outline ms) found ≡ Some (joined ms found)
   members_again no_members found h = refl
-  members_again (member k d ms) found h = rw (plain_again d h.0) (members_again ms (put k d found) h.1)
+  members_again (member k d ms) found h = rw (plain_again d h.0.1) (members_again ms (put k d found) h.1)
 
 mutual
   numbers_are : (d : Data) → IsPlain d → tree.HasNumbers (outline d)
@@ -118,7 +118,7 @@ mutual
 
   members_are : (ms : Members) → MembersArePlain ms → tree.MembersHaveNumbers (members_outline ms)
   members_are no_members h = tt
-  members_are (member k d ms) h = (numbers_are d h.0, members_are ms h.1)
+  members_are (member k d ms) h = (numbers_are d h.0.1, members_are ms h.1)
 
 mutual
   depth_same : (d : Data) → tree.depth (outline d) ≡ depth d

@@ -1,5 +1,6 @@
--- JSON values as bodies have them: their numbers are integers of 64 bits, and the keys of an object rise by their bytes.
-use Rattle.std.specs.Prelude.{◌≡◌, ℕ, ◌<◌, ◌^◌, pos, negsuc, List, ⊤}
+-- JSON values as bodies have them: numbers are integers of 64 bits, texts and keys are UTF-8, and the keys of an object rise by
+-- their bytes.
+use Rattle.std.specs.Prelude.{IsUtf8, ◌≡◌, ℕ, ◌<◌, ◌^◌, pos, negsuc, List, ⊤}
 use Rattle.std.specs.Ordering.{nat_cmp}
 use Rattle.std.specs.declared.cmp.Ordering.TheVariants.{Less}
 use Rattle.std.specs.Cmp.Lexicographic.{slice_cmp}
@@ -27,7 +28,7 @@ abbrev mutual
   IsPlain null = ⊤
   IsPlain (boolean b) = ⊤
   IsPlain (number n) = IsPlainNumber n
-  IsPlain (string s) = ⊤
+  IsPlain (string s) = IsUtf8 s
   IsPlain (array values) = ArePlain values
   IsPlain (object members) = MembersArePlain members × KeysRise members
 
@@ -37,4 +38,4 @@ abbrev mutual
 
   pub MembersArePlain : Members → Type 0
   MembersArePlain no_members = ⊤
-  MembersArePlain (member key value members) = IsPlain value × MembersArePlain members
+  MembersArePlain (member key value members) = (IsUtf8 key × IsPlain value) × MembersArePlain members
