@@ -154,12 +154,13 @@ def mixed(count):
     return rounds(lines, count, command, poll)
 
 
-def crowded(count):
+def crowded(count, users=2_000):
+    """So many messages to a stream with many subscribers, each with a queue."""
     lines = ["user_add 0 u1@x.org u1 100 k1", "stream_create 1 s % public"]
-    lines += [f"user_add 1 u{user}@x.org u{user} 400 k{user}" for user in range(2, count + 1)]
-    lines += [f"subscribe 1 1 {user}" for user in range(2, count + 1)]
-    lines += ["notice", "push 0"] + [f"register {user} message -" for user in range(1, count + 1)]
-    for turn in range(1_000):
+    lines += [f"user_add 1 u{user}@x.org u{user} 400 k{user}" for user in range(2, users + 1)]
+    lines += [f"subscribe 1 1 {user}" for user in range(2, users + 1)]
+    lines += ["notice", "push 0"] + [f"register {user} message -" for user in range(1, users + 1)]
+    for turn in range(count):
         lines.append(f"send_stream 1 1 t{turn % 3} m{turn}")
         if turn % 100 == 99:
             lines += ["notice", "push 0"]
