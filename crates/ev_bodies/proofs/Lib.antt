@@ -1,2 +1,9 @@
 pub mod Rising
 pub mod Objects
+pub mod Found
+pub mod RowsAgain
+pub mod EventsAgain
+pub mod PlainRows
+pub mod PlainEvents
+pub mod Somes
+pub mod BodiesAgain

@@ -6,6 +6,7 @@ use Rattle.std.specs.List.{AllByRecursion}
 use Rattle.serde_json.specs.Data.{Data}
 use Rattle.ev_rows.specs.Rows.{SortedByKey, keys_of}
 use Rattle.ev_rows.proofs.RiseLemmas.{rise-nil, rise-cons, rise_head, rise_tail}
+use Rattle.ev_bodies.specs.Fits.{Rises}
 use Rattle.ev_read.specs.Lists.{below_by_key, follows, is_above_last, rows_onto, taken_if, with_row}
 
 -- the last of a longer list
@@ -73,12 +74,6 @@ module _ {K V : Type 0} {cmp : K → K → Ordering} (total : IsTotalOrder cmp) 
         rise_onto [] ds rows (rise-nil cmp) (ap (λ test. rows_onto reads test [] ds) (sym same) ∙ read)
 
 -- ---- what rises is read
-
--- each is above the one before
-abbrev pub Rises : {T : Type 0} → (T → T → Bool) → List T → Type 0
-Rises is_below [] = Unit {0}
-Rises is_below (x ∷ []) = Unit {0}
-Rises is_below (x ∷ y ∷ ys) = (is_below x y ≡ true) × Rises is_below (y ∷ ys)
 
 module _ {T : Type 0} (reads : Data → Option T) (is_below : T → T → Bool) (write : T → Data) where
   after_last : (done : List T) (last : T) (rows : List T) → Rises is_below (last ∷ rows) → AllByRecursion (λ row. reads (write row) ≡ Some row) rows

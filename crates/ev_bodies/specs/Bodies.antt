@@ -5,6 +5,7 @@ use Rattle.serde_json.specs.Data.{Data, null, boolean, number, string, array, ob
 use Rattle.serde_json.specs.Find.{as_str}
 use Rattle.serde_json.specs.Read.{read}
 use Rattle.ev_base.specs.declared.ids.QueueId.{QueueId}
+use Rattle.ev_types.specs.declared.event.Item.{Item}
 use Rattle.ev_types.specs.Sections.{SomeSections, sections_of}
 use Rattle.ev_json.specs.declared.fields.FieldFault.{FieldFault}
 use Rattle.ev_json.specs.Fields.{field}
@@ -65,6 +66,10 @@ register_in text = object_in text >>= register_of
 abbrev pub or_entry : {A : Type 0} → Result A ℕ → Result A Unlike
 or_entry (Ok a) = Ok a
 or_entry (Err index) = Err (no_entry index)
+
+-- an event with its id, as it is read
+abbrev pub as_read : Item → WireItem
+as_read item = record { id = item.id; event = Some item.event }
 
 -- the events of a list, with any ids
 abbrev pub items_of : List Data → Result (List WireItem) Unlike

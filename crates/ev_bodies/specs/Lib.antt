@@ -1,3 +1,4 @@
 pub mod Keys
 pub mod Sections
 pub mod Bodies
+pub mod Fits
