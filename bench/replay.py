@@ -12,7 +12,7 @@ push and a poll at the end of each hundred lines:
   mixed     a hundred users, and twenty streams of ten subscribers: of a hundred lines 55 are messages, 25 flags, 10 reactions, and
             7 edits, moves, deletions and changes of people and streams; ten clients hear of messages, and acknowledge (100,000
             and 200,000 lines)
-  crowded   a stream with many subscribers, each with a queue, and a thousand messages to it (1,000 and 2,000 subscribers)
+  crowded   a stream with two thousand subscribers, each with a queue, and messages to it (1,000 and 2,000 messages)
   kept      one queue that nobody polls: a rename of the realm, an announcement and a push for each item (5,000 and 10,000 items)
   passed    one queue whose client polls each item at once (10,000 and 20,000 items)
   spread    a hundred pushes, each of one event to every queue (1,000 and 2,000 queues); the time of the same lines without the
