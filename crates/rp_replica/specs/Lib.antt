@@ -1,0 +1,5 @@
+pub mod Held
+pub mod Refusing
+pub mod News
+pub mod Replicas
+pub mod Written
