@@ -23,12 +23,8 @@ pub enum Problem {
     InvalidKey,
     /// The queue of this text isn't there, or isn't the user's.
     BadQueue(PlainText),
-    Pruned {
-        newest: i64,
-    },
-    NotSent {
-        greatest: i64,
-    },
+    Pruned { newest: i64 },
+    NotSent { greatest: i64 },
     TooManyQueues,
     OpensSpent,
     Refused(Refusal),
@@ -44,9 +40,8 @@ impl Problem {
         match self {
             Problem::NoRoute => StatusCode::NOT_FOUND,
             Problem::BadMethod(_) => StatusCode::METHOD_NOT_ALLOWED,
-            Problem::NotLoggedIn
-            | Problem::InvalidKey
-            | Problem::Refused(Refusal::ActorUnknown) => StatusCode::UNAUTHORIZED,
+            Problem::NotLoggedIn | Problem::InvalidKey | Problem::Refused(Refusal::ActorUnknown) =>
+                StatusCode::UNAUTHORIZED,
             Problem::NoMemory => StatusCode::INTERNAL_SERVER_ERROR,
             Problem::Missing(_)
             | Problem::BadValue(_)
@@ -95,7 +90,9 @@ impl Problem {
             Problem::InvalidKey => String::from_str(alloc, "Invalid API key"),
             Problem::BadQueue(text) => format!(in alloc; "Bad event queue id: {}", text.as_str()),
             Problem::Pruned { newest } => format!(in alloc; "Events up to {newest} are pruned"),
-            Problem::NotSent { greatest } => format!(in alloc; "No event above {greatest} was sent"),
+            Problem::NotSent { greatest } => format!(in alloc;
+                "No event above {greatest} was sent"
+            ),
             Problem::TooManyQueues => String::from_str(alloc, "Too many queues"),
             Problem::OpensSpent => String::from_str(alloc, "No queue number is left"),
             Problem::Refused(why) => String::from_str(alloc, refusal_message(*why)),

@@ -7,8 +7,8 @@ use crate::answer::Answer;
 use crate::bodies::body_of;
 use crate::problem::Problem;
 use ev_base::NoMemory;
-use hw_wire::Response;
 use http::StatusCode;
+use hw_wire::Response;
 use std::alloc::{AllocError, Global};
 
 /// The response to a request. With `close` it says that the connection ends behind it.

@@ -3,9 +3,9 @@
 #![tactic(auto)]
 
 mod catching;
-mod rounds;
 mod places;
+mod rounds;
 
 pub use catching::catch_up;
-pub use rounds::push_next;
 pub use places::serving;
+pub use rounds::push_next;

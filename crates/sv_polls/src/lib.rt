@@ -2,8 +2,8 @@
 #![tactic(auto)]
 
 mod events;
-mod polling;
 mod poll;
+mod polling;
 
 pub use events::poll_events;
 pub use poll::Poll;
