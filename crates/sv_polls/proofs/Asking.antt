@@ -1,13 +1,13 @@
 -- Polls, one after another.
-use Rattle.std.proofs.Common.{◌≡◌, ℕ, ◌+◌, ◌-◌, ◌<◌, ◌%◌, Bool, true, false, List, [], ◌∷◌, length, Option, None, Some, Result, Ok, Err, IfOk, refl, ap, sym, subst, ◌∙◌, ◌⊎◌, inl, inr, true≢false, arith}
-use Rattle.std.specs.Prelude.{nat_le, MatchBool, IsErr}
+use Rattle.std.proofs.Common.{◌≡◌, ℕ, ◌+◌, ◌%◌, Bool, true, false, List, [], ◌∷◌, Option, None, Some, Result, Ok, Err, IfOk, refl, sym, subst, inl, inr, true≢false, arith}
+use Rattle.std.specs.Prelude.{MatchBool, IsErr}
 use Rattle.std.proofs.lemmas.List.{length-map}
 use Rattle.ev_rows.specs.declared.memory.NoMemory.{NoMemory}
 use Rattle.ev_base.specs.declared.ids.UserId.{UserId}
 use Rattle.ev_time.specs.Coming as of_clock
 use Rattle.zw_traces.specs.declared.shard.ShardInput.TheVariants.{Locate, Poll as AsPoll}
 use Rattle.zw_traces.specs.declared.shard.ShardReply.{ShardReply}
-use Rattle.zw_traces.specs.declared.shard.ShardReply.TheVariants.{At, Empty}
+use Rattle.zw_traces.specs.declared.shard.ShardReply.TheVariants.{At}
 use Rattle.zw_backend.specs.Seen.{MayCall, Seen, history_of, of_realm, of_shard, steps_of}
 use Rattle.zw_backend.specs.Backends.{After, IsKnown, Sights, StaysSeen}
 use Rattle.sv_calls.specs.Flows.{Any, AsksShard, Goes, HasShard, IsReady, IsServing}
@@ -18,7 +18,7 @@ use Rattle.zw_traces.specs.declared.shard.ShardInput.TheVariants.{Push}
 use Rattle.zw_traces.specs.declared.shard.ShardReply.TheVariants.{Pushed}
 use Rattle.sv_calls.proofs.Going.{still_serving, still_there}
 use Rattle.sv_polls.specs.declared.poll.Poll.{Poll}
-use Rattle.sv_polls.specs.Polls.{AsksOnce, CatchesUpFrom, CatchesUpTo, DoesEvents, Locates, Polls, PollsCaughtUp, PollsEvents, PollsOn, Tells, TellsSome, Told, Waits, WaitsStill, is_due}
+use Rattle.sv_polls.specs.Polls.{AsksOnce, CatchesUpFrom, CatchesUpTo, Locates, PollsEvents, PollsOn, Tells, TellsSome, Waits, WaitsStill, is_due}
 
 where_false : (test : Bool) (then other : Type 0) → test ≡ false → other → MatchBool test then other
 where_false false then other is holds = holds

@@ -1,13 +1,12 @@
 -- What polls ask, and how often.
-use Rattle.std.specs.Prelude.{◌≡◌, ℕ, ◌+◌, ◌-◌, nat_le, Bool, false, true, List, [], ◌∷◌, Option, None, Some, Result, Ok, Err, MatchBool, ◌⊎◌}
+use Rattle.std.specs.Prelude.{◌≡◌, ℕ, ◌-◌, nat_le, Bool, false, List, [], ◌∷◌, Option, None, Some, Result, Ok, Err, MatchBool, ◌⊎◌}
 use Rattle.ev_rows.specs.declared.memory.NoMemory.{NoMemory}
 use Rattle.ev_time.specs.Coming as of_clock
 use Rattle.zw_traces.specs.declared.shard.ShardInput.TheVariants.{Locate, Poll as AsPoll}
 use Rattle.zw_traces.specs.declared.shard.ShardReply.{ShardReply}
 use Rattle.zw_traces.specs.declared.shard.ShardReply.TheVariants.{At, Empty}
-use Rattle.zw_traces.specs.Histories.{shard_of}
 use Rattle.zw_backend.specs.Seen.{Seen}
-use Rattle.sv_calls.specs.Flows.{AsksShard, HasShard, IsServing}
+use Rattle.sv_calls.specs.Flows.{AsksShard, IsServing}
 use Rattle.sv_calls.specs.Pushing.{CatchesUp}
 use Rattle.sv_polls.specs.declared.poll.Poll.{Poll}
 

@@ -109,7 +109,7 @@ pub fetches_refused : (a b c : Sights) (user : UserId) (asked : List Section) (p
 fetches_refused a b c user asked parts section others in_order so_far goes =
     fetches_some a b c user asked parts section others realm_reply.FetchRefused in_order so_far
     (λ before holds any. let one = goes before holds tt in
-      record { seen = one.seen; holds = one.holds; done = subst (λ told. AsksRealm (Fetch user section) told before one.seen) one.done.1 one.done.2 })
+    record { seen = one.seen; holds = one.holds; done = subst (λ told. AsksRealm (Fetch user section) told before one.seen) one.done.1 one.done.2 })
 
 -- or there is no memory for it
 pub fetches_none : (a b c : Sights) (user : UserId) (asked : List Section) (parts : List FetchedSection) (section : Section) (others : List Section) (none other : NoMemory)
@@ -145,7 +145,7 @@ fetches_lead shard user queue done [] before after fetches known =
 fetches_lead shard user queue done (part ∷ parts) before after fetches known =
     subst (λ list. InRegistration shard user queue list after) (append_assoc done (part ∷ []) parts)
     (fetches_lead shard user queue (done ++ part ∷ []) parts fetches.0 after fetches.2
-      (fetched_in_registration shard user queue done part before fetches.0 fetches.1 known))
+    (fetched_in_registration shard user queue done part before fetches.0 fetches.1 known))
 
 -- rounds leave it in registration
 round_leads : (shard : ℕ) (user : UserId) (queue : QueueId) (parts : List FetchedSection) (at first position : ℕ) (before after : Seen) → PushesFrom at first (Pushed position) before after

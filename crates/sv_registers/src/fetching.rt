@@ -52,7 +52,10 @@ fn fetch_one<B: Backend>(
     ensures { Goes (B.represents backend.now pass.old) Any (FetchesOne user section result)
         (B.represents backend.now pass.new) }
 {
-    part_in(section, backend.ask_realm(alloc, pass, RealmInput::Fetch { user, section }))
+    part_in(
+        section,
+        backend.ask_realm(alloc, pass, RealmInput::Fetch { user, section }),
+    )
 }
 
 fn part_in(section: Section, reply: RealmReply) -> Result<Option<FetchedSection>, NoMemory>

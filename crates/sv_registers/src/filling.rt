@@ -38,7 +38,9 @@ pub fn fill<R: Wait, B: Backend, G: Gate>(
 {
     match fetch_all(backend, alloc, pass, user, asked, gate) {
         Ok(Some(parts)) => {
-            complete(rt, backend, alloc, pass, shard, user, opened, parts, commits, gate)
+            complete(
+                rt, backend, alloc, pass, shard, user, opened, parts, commits, gate,
+            )
         }
         Ok(None) => Registered::FetchRefused,
         Err(NoMemory) => Registered::NoMemory,
@@ -98,7 +100,13 @@ fn finish<B: Backend, G: Gate>(
 {
     registered_in(
         queue,
-        backend.ask_shard(alloc, pass, shard, ShardInput::Finish { queue, parts }, gate),
+        backend.ask_shard(
+            alloc,
+            pass,
+            shard,
+            ShardInput::Finish { queue, parts },
+            gate,
+        ),
     )
 }
 

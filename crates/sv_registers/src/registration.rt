@@ -24,7 +24,9 @@ pub enum Registered {
         state: State,
     },
     /// The queue was ended meanwhile.
-    BadQueue { queue: QueueId },
+    BadQueue {
+        queue: QueueId,
+    },
     FetchRefused,
     TooManyQueues,
     OpensSpent,
@@ -67,7 +69,9 @@ pub fn register<R: Wait, B: Backend, G: Gate>(
     let shard = serving(backend, pass, user);
     match open_queue(backend, alloc, pass, shard, asking, gate) {
         Ok(opened) => {
-            fill_or_delete(rt, backend, alloc, pass, shard, user, opened, &asked, commits, gate)
+            fill_or_delete(
+                rt, backend, alloc, pass, shard, user, opened, &asked, commits, gate,
+            )
         }
         Err(refused) => refused,
     }
@@ -98,7 +102,9 @@ fn fill_or_delete<R: Wait, B: Backend, G: Gate>(
         (FillsOrDeletes shard user opened asked.now commits result)
         (B.represents backend.now pass.new) }
 {
-    let filled = fill(rt, backend, alloc, pass, shard, user, opened, asked, commits, gate);
+    let filled = fill(
+        rt, backend, alloc, pass, shard, user, opened, asked, commits, gate,
+    );
     if filled.is_given_up() {
         delete_queue(backend, alloc, pass, shard, user, opened.queue, gate);
     }

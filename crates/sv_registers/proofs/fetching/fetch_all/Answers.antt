@@ -31,7 +31,7 @@ returns-in_err-push g c =
     let order = front_and_rest asked index parts (get_or asked index Realm) (drop (index + 1) asked) c.loop-section.invariant.1 (split_at asked index Realm c.loop-section-test.true) in
     fails_so _ _ c.args.user asked c.from_residual-in_err-push.result c.from_residual-in_err-push.ensures.0
     (λ other. fetches_lost _ _ _ c.args.user asked parts (get_or asked index Realm) (drop (index + 1) asked) c.in-Some.part other order c.loop-section.invariant.2
-      (subst (λ found. Goes (g.B.Backend.represents c.args.backend.now c.loop-section.pass) Any (FetchesOne c.args.user (get_or asked index Realm) (Ok found)) (g.B.Backend.represents c.args.backend.now c.fetch_one.new.pass)) c.in-Some.is c.in_ok-part.ensures))
+    (subst (λ found. Goes (g.B.Backend.represents c.args.backend.now c.loop-section.pass) Any (FetchesOne c.args.user (get_or asked index Realm) (Ok found)) (g.B.Backend.represents c.args.backend.now c.fetch_one.new.pass)) c.in-Some.is c.in_ok-part.ensures))
 
 pub loop-section-preserved : goal.loop-section-preserved
 loop-section-preserved g c =
