@@ -21,7 +21,13 @@ pub fn asked_by(alloc: Global, routes: &Routes, request: &Request) -> Result<Ask
     ensures { IsAsked request.now result }
 {
     let found = credentials(alloc, request.authorization.as_deref());
-    match route(alloc, routes, &request.method, &request.target, &request.body) {
+    match route(
+        alloc,
+        routes,
+        &request.method,
+        &request.target,
+        &request.body,
+    ) {
         Ok(call) => joined(call, found),
         Err(fault) => Err(problem_of_route(fault)),
     }

@@ -35,7 +35,9 @@ pub fn answer_request<R: Wait, B: Backend, C: Clock, E: Entropy, G: Gate>(
 {
     match asked_by(alloc, routes, request) {
         Ok(asked) => {
-            answer_asked(rt, backend, alloc, pass, asked, moment, clock, entropy, gate)
+            answer_asked(
+                rt, backend, alloc, pass, asked, moment, clock, entropy, gate,
+            )
         }
         Err(problem) => Answer::Refused(problem),
     }
